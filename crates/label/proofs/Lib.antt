@@ -1,0 +1,11 @@
+pub mod Intervals
+pub mod Leads
+pub mod Levels
+pub mod Pieces
+pub mod Readings
+pub mod Standing
+pub mod Theorems
+pub mod Words
+pub mod Extend
+pub mod Faults
+pub mod Spelt
