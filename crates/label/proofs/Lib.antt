@@ -9,3 +9,4 @@ pub mod Words
 pub mod Extend
 pub mod Faults
 pub mod Spelt
+pub mod Apart

@@ -1,5 +1,6 @@
 pub mod Fault
 pub mod Label
+pub mod Listed
 pub mod Order
 pub mod Reading
 pub mod Relation
