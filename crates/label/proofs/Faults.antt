@@ -76,10 +76,12 @@ module _ (w : ℕ → ℕ → ℕ) where
 
     here : (n x l i : ℕ) (e : LabelFault) → x < 2 ^ n → Wrong w (N - n) n (w l i) i x e → Stops-from n x l i e
     here n x l i e small wrong =
-        let all : n ≡ n - 0 = omega arith in
-        (start, x,
-        record { fits = tt; within = omega arith; spells = omega arith; small = subst (λ (j : ℕ). x < 2 ^ j) all small; going = tt },
-        wrong-moved _ _ _ _ (w l i) i x e (omega arith) all wrong)
+        let all : n ≡ n - 0 = omega arith in (
+          start,
+          x,
+          record { fits = tt; within = omega arith; spells = omega arith; small = subst (λ (j : ℕ). x < 2 ^ j) all small; going = tt },
+          wrong-moved _ _ _ _ (w l i) i x e (omega arith) all wrong,
+        )
 
     -- a subvalue more in front
     further-on : (n s y l i : ℕ) (e : LabelFault) → n ≤ N → w l i < n → s < 2 ^ w l i → Stops-from (n - w l i - 1) y l (i + 1) e
@@ -89,16 +91,18 @@ module _ (w : ℕ → ℕ → ℕ) where
         let m : ℕ = n - k - 1 in
         let z : ℕ = front-bits w l (i + 1) f in
         let less : m - z ≡ n - (k + 1 + z) = omega arith in
-        let at : N - m + z ≡ N - n + (k + 1 + z) = omega arith in
-        (on s f, rest,
-        record {
-          fits = (small, b .fits);
-          within = omega (arith, b .within);
-          spells = omega (arith, b .spells);
-          small = subst (λ (j : ℕ). rest < 2 ^ j) less (b .small);
-          going = b .going;
-        },
-        wrong-moved _ _ _ _ (next-width w l (i + 1) f) (next-position w l (i + 1) f) rest e at less wrong)
+        let at : N - m + z ≡ N - n + (k + 1 + z) = omega arith in (
+          on s f,
+          rest,
+          record {
+            fits = (small, b .fits);
+            within = omega (arith, b .within);
+            spells = omega (arith, b .spells);
+            small = subst (λ (j : ℕ). rest < 2 ^ j) less (b .small);
+            going = b .going;
+          },
+          wrong-moved _ _ _ _ (next-width w l (i + 1) f) (next-position w l (i + 1) f) rest e at less wrong,
+        )
 
     goes-deeper : (s : ℕ) (f : Front) (rest : ℕ) → Goes-on (under s f) rest → Goes-on f rest
     goes-deeper s start rest going = tt
@@ -117,16 +121,18 @@ module _ (w : ℕ → ℕ → ℕ) where
         let m : ℕ = n - k - 1 in
         let z : ℕ = front-bits w (l + 1) 0 f in
         let less : m - z ≡ n - (k + 1 + z) = omega arith in
-        let at : N - m + z ≡ N - n + (k + 1 + z) = omega arith in
-        (under s f, rest,
-        record {
-          fits = (ends, small, b .fits);
-          within = omega (arith, b .within);
-          spells = omega (arith, b .spells);
-          small = subst (λ (j : ℕ). rest < 2 ^ j) less (b .small);
-          going = goes-under s y m (l + 1) f rest (b .spells) (b .going) some;
-        },
-        wrong-moved _ _ _ _ (next-width w (l + 1) 0 f) (next-position w (l + 1) 0 f) rest e at less wrong)
+        let at : N - m + z ≡ N - n + (k + 1 + z) = omega arith in (
+          under s f,
+          rest,
+          record {
+            fits = (ends, small, b .fits);
+            within = omega (arith, b .within);
+            spells = omega (arith, b .spells);
+            small = subst (λ (j : ℕ). rest < 2 ^ j) less (b .small);
+            going = goes-under s y m (l + 1) f rest (b .spells) (b .going) some;
+          },
+          wrong-moved _ _ _ _ (next-width w (l + 1) 0 f) (next-position w (l + 1) 0 f) rest e at less wrong,
+        )
 
     -- the bits of a subvalue that ends its level
     ends : (k n s y : ℕ) → k ≤ n → y + y < 2 ^ (n - k) → Ends-level w k n (s * 2 ^ (n - k) + y) s
@@ -157,8 +163,15 @@ module _ (w : ℕ → ℕ → ℕ) where
       where
         go : Refused (may-end i s) (onto (down s) (scan w N f (n - w l i - 1) y (l + 1) 0)) (Zero (N - n)) e → Stops-from n x l i e
         go (by-test z is) =
-            subst (Stops-from n x l i) is (here n x l i (Zero (N - n)) small (refl, (s, subst (λ (v : ℕ). Ends-level w (w l i) n v s) (t .3)
-            (ends (w l i) n s y (omega (arith, t .0)) (omega (arith, t .2, pow-half (w l i) n (t .0)))), z)))
+            subst (Stops-from n x l i) is (here n x l i (Zero (N - n)) small (
+              refl,
+              (
+                s,
+                subst (λ (v : ℕ). Ends-level w (w l i) n v s) (t .3)
+                    (ends (w l i) n s y (omega (arith, t .0)) (omega (arith, t .2, pow-half (w l i) n (t .0)))),
+                z,
+              ),
+            ))
         go (by-result z is) =
             let m : ℕ = n - w l i - 1 in
             let stopped = ih m y (l + 1) 0 e (omega arith) (omega (arith, t .0)) (t .2) (onto-err (down s) (scan w N f m y (l + 1) 0) e is) in

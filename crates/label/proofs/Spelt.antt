@@ -101,9 +101,11 @@ module _ (w : ℕ → ℕ → ℕ) where
       (omega arith, subst (λ (j : ℕ). j < 2 ^ w l i) (same-value t s false e first) (f .0), subst (λ (v : Bool). stands-at i s v ≡ true) (same-end t s false e first) refl)
   first-fits n l i s e rest (down t c) h f b =
       let first : subvalue t true ≡ subvalue s e = cc in
-      let is : t ≡ s = same-value t s true e first in
-      (omega arith, subst (λ (j : ℕ). j < 2 ^ w l i) is (f .1),
-      subst (λ (v : Bool). stands-at i s v ≡ true) (same-end t s true e first) (subst (λ (j : ℕ). stands-at i j true ≡ true) is (f .0)))
+      let is : t ≡ s = same-value t s true e first in (
+        omega arith,
+        subst (λ (j : ℕ). j < 2 ^ w l i) is (f .1),
+        subst (λ (v : Bool). stands-at i s v ≡ true) (same-end t s true e first) (subst (λ (j : ℕ). stands-at i j true ≡ true) is (f .0)),
+      )
 
   -- ## The returns of writing: the list ss begins with `first`, of k bits, and goes on with `further`
   module _ (n l i k : ℕ) (width : k ≡ w l i) (first : Subvalue) (further : List Subvalue) where
@@ -177,6 +179,7 @@ module _ (w : ℕ → ℕ → ℕ) where
         let total : spelled w n l i c ≡ x + z + y =
         onward-spelled n l i e s d
         ∙ ap (λ (j : ℕ). s * 2 ^ (n - w l i) + separator-after e j + spelled w j (level-after e l) (position-after e i) d) m-is
-        ∙ omega (arith, front, is, separated) in
-        ((c, onward-spelling e s d ∙ ap (λ (r : List Subvalue). first ∷ r) sp, fits, within, total),
-        subst (λ (v : ℕ). v < 2 ^ n) total (below w n l i c fits within))
+        ∙ omega (arith, front, is, separated) in (
+          (c, onward-spelling e s d ∙ ap (λ (r : List Subvalue). first ∷ r) sp, fits, within, total),
+          subst (λ (v : ℕ). v < 2 ^ n) total (below w n l i c fits within),
+        )

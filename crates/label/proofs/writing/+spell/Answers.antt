@@ -73,7 +73,6 @@ returns-in-Break-rest g t c =
     (no-rest w n l i (c .width-width .result) (c .width-width .ensures) _ _ (sym (c .if-is-empty-2 .ensures tt)) (c .in-Continue-behind .behind) _ _ (omega (arith, c .in-Continue-behind .ensures tt))
     (c .place-after-level .ensures) (c .in-Break-rest .ensures tt)))
 
-
 -- what the subvalue and the rest are written as, and that it fits
 whole : (g : given.Over) (t : ℕ) (c : need.After-separator g t)
     → let total : ℕ = c .in-Continue-value .value + c .separator .result + c .in-Continue-rest .rest in
