@@ -6,6 +6,7 @@ use native.Mathlib.Omega.{arith}
 use lib.Dec.{eqb, ltb}
 use Rattle.std.proofs.shelf.Tests.{cond-both, both-ways, eqb-true, eqb-false, ltb-true, ltb-false}
 use Rattle.label.specs.declared.relation.Relation.{Relation}
+use Rattle.std.specs.declared.option.Option.the-variants.{Some, None}
 use Rattle.std.specs.declared.result.Result.{Result}
 use Rattle.std.specs.declared.result.Result.the-variants.{Ok, Err}
 use Rattle.std.specs.Vec.{made}
@@ -14,11 +15,13 @@ use Rattle.label.specs.Reading.{label-of, reading-of, answer}
 use Rattle.label.specs.Order.{Earlier, Over}
 use Rattle.label.specs.Relation.{leads, relation-of}
 use Rattle.label.specs.Stops.{Stops, front-bits, next-position, next-width}
-use Rattle.label.specs.Theorems.{One-label, One-outcome, Reading-is, Of, Reads, Leads-by-levels, Words-in-order, Led-between, Stands, Relates}
+use Rattle.label.specs.Theorems.{One-label, One-outcome, Reading-is, Of, Reads, Led-to, Ends-led, Leads-by-levels, Words-in-order, Led-between, Stands, Relates}
 use Rattle.label.specs.declared.fault.LabelFault.{LabelFault}
 use Rattle.label.specs.declared.reading.WordReading.{WordReading}
 use lib.Pow.{pow-pos}
+use Rattle.label.proofs.Intervals as Intervals
 use Rattle.label.proofs.Intervals.{inside, outside}
+use Rattle.label.proofs.Pieces.{pow-half}
 use Rattle.label.proofs.Leads.{Inside, whole, inside-from-leads, leads-from-inside}
 use Rattle.label.proofs.Levels.{over-from-under, under-from-over, earlier-from-under, earlier-from-past, earlier-one-way}
 use Rattle.label.proofs.Standing.{Under, Past, Standing, same, above, below, before, after, standing}
@@ -194,3 +197,43 @@ module _ (w : ℕ → ℕ → ℕ) (N : ℕ) where
       by-standing (below v) siblings less = absurd (omega (arith, greater-from-under e c p v))
       by-standing (before v) siblings less = past v
       by-standing (after v) siblings less = absurd (omega (arith, greater-from-past e c r p v))
+
+  -- the end of what a label of fewer than N bits leads
+  pub led-to : (c : Label) (bound : ℕ) → Lawful w N c → bound ≡ word w N c + 2 ^ (N - bits w 1 0 c - 1) → Led-to w N c (Some bound)
+  led-to c bound p is d q = (led, leads)
+    where
+      led : Over c d → (word w N c < word w N d) × (word w N d < bound)
+      led over = let (more, low, high) = inside w N 1 0 c d (q .0) (q .1) (under-from-over c d over) in (low, omega (arith, is, high))
+
+      leads : (word w N c < word w N d) × (word w N d < bound) → Over c d
+      leads (low, high) =
+          elim (standing c d) [
+            | same i ↦ absurd (omega (arith, low, ap (word w N) i))
+            | above u ↦ over-from-under c d u
+            | below u ↦ absurd (omega (arith, low, greater-from-under d c p u))
+            | before u ↦ absurd (omega (arith, high, is, outside w N 1 0 c d (p .0) (q .0) (p .1) (q .1) u))
+            | after u ↦ absurd (omega (arith, low, greater-from-past d c q p u))
+          ]
+
+  -- a label of N bits leads nothing
+  pub led-none : (c : Label) → N ≤ bits w 1 0 c → Led-to w N c None
+  led-none c all d q over = omega (arith, all, q .1, inside w N 1 0 c d (q .0) (q .1) (under-from-over c d over) .0)
+
+  -- the same of a word that was read
+  module _ (x : ℕ) (reading : WordReading) (read : Reads w N x (Ok reading)) where
+    pub ends-led : (bound : ℕ) → bound ≡ x + 2 ^ (N - 1 - reading .bits) → Ends-led w N x (Ok (Some bound))
+    ends-led bound is =
+        let (c, of, it) = read in
+        let e : N - 1 - reading .bits ≡ N - bits w 1 0 c - 1 = omega (arith, ap (λ (q : WordReading). q .bits) it) in
+        (c, of, led-to c bound (of .0) (is ∙ omega (arith, of .1, ap (λ (j : ℕ). 2 ^ j) e)))
+
+    pub ends-none : N ≤ reading .bits → Ends-led w N x (Ok None)
+    ends-none all = let (c, of, it) = read in (c, of, led-none c (omega (arith, all, ap (λ (q : WordReading). q .bits) it)))
+
+    -- the end fits a word
+    pub end-fits : reading .bits < N → x + 2 ^ (N - 1 - reading .bits) < 2 ^ N
+    end-fits fewer =
+        let (c, (p, at), it) = read in
+        let k : ℕ = bits w 1 0 c in
+        let e : N - 1 - reading .bits ≡ N - k - 1 = omega (arith, ap (λ (q : WordReading). q .bits) it) in
+        omega (arith, at, ap (λ (j : ℕ). 2 ^ j) e, Intervals.room w N 1 0 c (p .0) (p .1), pow-half k N (omega (arith, ap (λ (q : WordReading). q .bits) it)), pow-pos (N - k - 1))

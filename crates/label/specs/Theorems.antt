@@ -3,6 +3,8 @@ use Prim.Native.Nat.{ℕ, _^_, _<_}
 use mathlib.Core.Path.{_≡_}
 use mathlib.Core.Bool.{true}
 use mathlib.Core.Logic.{_⊎_}
+use Rattle.std.specs.declared.option.Option.{Option}
+use Rattle.std.specs.declared.option.Option.the-variants.{Some, None}
 use Rattle.std.specs.declared.result.Result.{Result}
 use Rattle.std.specs.declared.result.Result.the-variants.{Ok, Err}
 use Rattle.label.specs.Label.{Label, bits, parent, Lawful, word}
@@ -45,6 +47,15 @@ module _ (w : ℕ → ℕ → ℕ) (N : ℕ) where
   Relates a b (Ok r) =
       (c : Label) × (d : Label) × Of w N c a × Of w N d b × (r ≡ relation-of N (bits w 1 0 c) (bits w 1 0 d) a b) × Stands r c d
   Relates a b (Err fault) = Stops w N a fault ⊎ ((c : Label) × Of w N c a × Stops w N b fault)
+
+  -- a label leads exactly the lawful labels with a greater word that is below the end, or it leads none
+  abbrev pub Led-to : Label → Option ℕ → Type 0
+  Led-to c None = (d : Label) → Lawful w N d → Over c d → ⊥
+  Led-to c (Some end) = (d : Label) → Lawful w N d → Exactly (Over c d) ((word w N c < word w N d) × (word w N d < end))
+
+  abbrev pub Ends-led : (x : ℕ) → Result (Option ℕ) LabelFault → Type 0
+  Ends-led x (Ok end) = (c : Label) × Of w N c x × Led-to c end
+  Ends-led x (Err fault) = Stops w N x fault
 
   -- ## Laws
 

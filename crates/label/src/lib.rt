@@ -1,5 +1,6 @@
 // Labels of places in a tree: their words, reading and writing them, and the order in which they are read.
 mod fault;
+mod leading;
 mod piece;
 mod reading;
 mod relation;
@@ -12,6 +13,7 @@ mod writing;
 pub use fault::LabelFault;
 pub use fault::LabelFaultDebug;
 pub use fault::LabelFaultPartialEq;
+pub use leading::led_end;
 pub use reading::WordReading;
 pub use reading::WordReadingDebug;
 pub use reading::WordReadingPartialEq;
