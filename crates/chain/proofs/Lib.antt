@@ -1,0 +1,3 @@
+pub mod Hooks
+pub mod Reset
+pub mod Walks

@@ -1,0 +1,3 @@
+pub mod Factory
+pub mod Rises
+pub mod Sheet

@@ -1,0 +1,4 @@
+mod Carried
+mod Cuts
+mod Numbers
+mod Spelt

@@ -1,0 +1,5 @@
+pub mod Carrying
+pub mod Grammar
+pub mod Lines
+pub mod Numerals
+pub mod Places

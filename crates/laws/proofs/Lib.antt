@@ -1,0 +1,13 @@
+pub mod Tests
+pub mod Places
+pub mod Draws
+pub mod Rows
+pub mod Keeps
+pub mod Firings
+pub mod Steps
+pub mod Laying
+pub mod ThreeLaws
+pub mod Pins
+pub mod Decides
+pub mod Totals
+pub mod Example

@@ -1,0 +1,9 @@
+pub mod Numbers
+pub mod Standing
+pub mod Sheet
+pub mod Openings
+pub mod Calls
+pub mod Drawing
+pub mod History
+pub mod Laws
+pub mod Example

@@ -1,0 +1,4 @@
+pub mod Below
+pub mod Children
+pub mod Next
+pub mod Ranks

@@ -1,0 +1,5 @@
+pub mod Changes
+pub mod Fault
+pub mod Rows
+pub mod Scan
+pub mod Tables
