@@ -57,8 +57,8 @@ module _ (plan : AnyPlan) where
       ⊎ ((fault : LabelFault) × (r ≡ Err (refusal.Label fault)) × Relates (by-either plan) word-bits x y (Err fault))
 
   -- `between`: the label between, with its subvalues; or there is none; or the fault of the parent
-  abbrev pub Places : ℕ → Option ℕ → Option ℕ → Result Answer Refusal → Type 0
-  Places parent lower upper r =
+  abbrev pub Finds : ℕ → Option ℕ → Option ℕ → Result Answer Refusal → Type 0
+  Finds parent lower upper r =
       ((x : ℕ) × (text : Spelling) × (r ≡ Ok (Found x text)) × Betweens (by-either plan) word-bits parent lower upper (Ok (Some x))
       × Takes-apart (by-either plan) word-bits x (Ok text))
       ⊎ ((r ≡ Err refusal.NoPlace) × Betweens (by-either plan) word-bits parent lower upper (Ok None))
@@ -69,7 +69,7 @@ abbrev pub Carries : Session → Command → Result Answer Refusal → Session �
 Carries before (Plan kind widths) r after = Chooses before kind (vec-items widths) r after
 Carries before (Ask x) r after = Asks (before .plan) x r × (after ≡ before)
 Carries before (Relate x y) r after = Tells (before .plan) x y r × (after ≡ before)
-Carries before (Between parent lower upper) r after = Places (before .plan) parent lower upper r × (after ≡ before)
+Carries before (Between parent lower upper) r after = Finds (before .plan) parent lower upper r × (after ≡ before)
 
 -- what a refusal or an answer is printed as
 abbrev pub answer-of : Result Answer Refusal → Answer

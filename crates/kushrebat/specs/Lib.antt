@@ -3,3 +3,4 @@ pub mod Grammar
 pub mod Lines
 pub mod Numerals
 pub mod Places
+pub mod Reasons

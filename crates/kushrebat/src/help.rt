@@ -2,9 +2,7 @@
 
 pub(crate) const USAGE: &str = "usage: kushrebat [FILE | --help]";
 
-pub(crate) const HELP: &str = "\
-usage: kushrebat [FILE | --help]
-
+pub(crate) const HELP: &str = "
 Reads a script from FILE, or from standard input, and prints one answer for each command.
 A script has one command to a line; words are separated by spaces; # starts a comment.
 WORD is a label word: sixteen hexadecimal digits. Numbers are decimal.

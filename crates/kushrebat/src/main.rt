@@ -12,12 +12,36 @@ use script::lines::LineByLine;
 use script::lines::Lines;
 use session::Session;
 use std::env;
-use std::error::AnyError;
+use std::fmt;
 use std::fs;
 use std::io;
 use std::io::BufWriter;
 use std::io::Read;
 use std::io::Write;
+
+// Why the program ends before its task is done.
+#[derive(Drop)]
+enum Failure {
+    // The words behind the program's name make no sense.
+    Usage,
+    // The script cannot be read, or the answers cannot be written.
+    Io(io::Error),
+}
+
+impl From<io::Error> for Failure as FailureFromIo {
+    fn from(e: io::Error) -> Failure {
+        Failure::Io(e)
+    }
+}
+
+impl fmt::Display for Failure as FailureDisplay {
+    fn fmt<W: fmt::Write>(&self, f: &mut fmt::Formatter<W>) -> fmt::Result {
+        match self {
+            Failure::Usage => f.write_str(USAGE),
+            Failure::Io(e) => write!(f, "kushrebat: {e}"),
+        }
+    }
+}
 
 // What the program is asked for.
 #[derive(Drop)]
@@ -36,16 +60,18 @@ fn asked(rt: &LibcRuntime) -> io::Result<Option<Task>> {
     if words.next().is_some() {
         return Ok(None);
     }
-    Ok(match first {
-        None => Some(Task::Input),
-        Some(word) => {
-            if word.as_str() == "--help" {
-                Some(Task::Help)
-            } else {
-                Some(Task::File(word))
+    Ok(
+        match first {
+            None => Some(Task::Input),
+            Some(word) => {
+                if word.as_str() == "--help" {
+                    Some(Task::Help)
+                } else {
+                    Some(Task::File(word))
+                }
             }
-        }
-    })
+        },
+    )
 }
 
 // All of standard input.
@@ -67,20 +93,21 @@ fn answer_script(rt: &LibcRuntime, script: &[u8]) -> io::Result<()> {
     out.flush()
 }
 
-fn run(rt: &LibcRuntime) -> Result<(), AnyError> {
+fn run(rt: &LibcRuntime) -> Result<(), Failure> {
     match asked(rt)? {
         Some(Task::Input) => answer_script(rt, read_input(rt)?.as_slice())?,
         Some(Task::File(name)) => answer_script(rt, fs::read(rt, name)?.as_slice())?,
-        Some(Task::Help) => rt.print(HELP)?,
-        None => return Err(USAGE.into()),
+        Some(Task::Help) => print!(rt, "{USAGE}\n{HELP}")?,
+        None => return Err(Failure::Usage),
     }
     Ok(())
 }
 
-fn main(rt: LibcRuntime) -> Result<(), AnyError> {
+// The status is 0 once the script is read to its end, whatever was turned down in it.
+fn main(rt: LibcRuntime) -> Result<(), Failure> {
     let done = run(&rt);
-    if let Err(why) = &done {
-        eprintln!(rt, "kushrebat: {why}")?;
+    if let Err(failure) = &done {
+        let _ = eprintln!(rt, "{failure}");
     }
     done
 }

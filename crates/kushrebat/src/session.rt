@@ -2,7 +2,7 @@
 ghost use mathlib.Core.Path.{_≡_};
 ghost use Prim.Native.Nat.{ℕ};
 ghost use Rattle.plan.specs.Plans.{by-either, Makes};
-ghost use Rattle.kushrebat.specs.Carrying.{place-of, Chooses, Asks, Tells, Places, Carries, Answers-line};
+ghost use Rattle.kushrebat.specs.Carrying.{place-of, Chooses, Asks, Tells, Finds, Carries, Answers-line};
 use crate::answer::Answer;
 use crate::answer::Refusal;
 use crate::answer::RefusalFromLabel;
@@ -51,7 +51,7 @@ fn between(
     lower: Option<Word>,
     upper: Option<Word>,
 ) -> Result<Answer, Refusal>
-    ensures { λ r. ⌜ Places (now (plan .entry)) parent lower upper r ⌝ }
+    ensures { λ r. ⌜ Finds (now (plan .entry)) parent lower upper r ⌝ }
 {
     let between = gap::between(plan, parent, lower, upper)?;
     let Some(word) = between else {

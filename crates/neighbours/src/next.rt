@@ -7,9 +7,9 @@ ghost use Rattle.neighbours.specs.Next.{Neighbours};
 use crate::child::children_end;
 use crate::child::first_child;
 use crate::child::last_child;
-use laws::Where;
 use crate::rank::rank_past;
 use label::Word;
+use laws::Where;
 use plan::WidthPlan;
 use shelf::Reading;
 
@@ -35,11 +35,17 @@ pub fn neighbours<P: WidthPlan, S: Reading>(
         Where::LastUnder => (last_child(plan, shelf, parent, shelf.rank(end)), None),
         Where::Before => {
             let at = shelf.rank(label);
-            (last_child(plan, shelf, parent, at), first_child(plan, shelf, parent, end, at))
+            (
+                last_child(plan, shelf, parent, at),
+                first_child(plan, shelf, parent, end, at),
+            )
         }
         Where::After => {
             let at = rank_past(shelf, label);
-            (last_child(plan, shelf, parent, at), first_child(plan, shelf, parent, end, at))
+            (
+                last_child(plan, shelf, parent, at),
+                first_child(plan, shelf, parent, end, at),
+            )
         }
     }
 }

@@ -11,13 +11,7 @@ pub(crate) fn rank_past<S: Reading>(shelf: &S, label: Word) -> usize
 {
     let rank = shelf.rank(label);
     match shelf.row(rank) {
-        Some(row) => {
-            if row.label == label {
-                rank + 1
-            } else {
-                rank
-            }
-        }
+        Some(row) => { if row.label == label { rank + 1 } else { rank } }
         None => rank,
     }
 }

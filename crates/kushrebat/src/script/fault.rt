@@ -1,5 +1,7 @@
 // Why a line of a script cannot be read.
 ghost use mathlib.Core.Path.{_≡_};
+ghost use Rattle.std.specs.declared.option.Option.the-variants.{Some};
+ghost use Rattle.kushrebat.specs.Reasons.{reason-of};
 ghost use Rattle.kushrebat.specs.declared.script.fault.LineFault.the-variants.{OutOfMemory};
 use std::alloc::AllocError;
 use std::alloc::Refused;
@@ -13,6 +15,22 @@ pub enum LineFault {
     NotANumber,
     NotALabelWord,
     OutOfMemory,
+}
+
+impl LineFault {
+    // What is told of it.
+    fn reason(&self) -> &'static str
+        ensures { λ r. ⌜ now r ≡ reason-of (now (self .entry)) ⌝ }
+    {
+        match self {
+            LineFault::UnknownCommand => "unknown command",
+            LineFault::MissingWord => "missing word",
+            LineFault::ExtraWord => "extra word",
+            LineFault::NotANumber => "not a number",
+            LineFault::NotALabelWord => "not a label word",
+            LineFault::OutOfMemory => "out of memory",
+        }
+    }
 }
 
 pub impl From<AllocError> for LineFault as LineFaultFromAlloc {
@@ -32,16 +50,9 @@ pub impl<T: Drop> From<Refused<T>> for LineFault as LineFaultFromRefused {
 }
 
 pub impl fmt::Display for LineFault as LineFaultDisplay {
+    ghost shown = { λ fault. Some (reason-of fault) };
+
     fn fmt<W: fmt::Write>(&self, f: &mut fmt::Formatter<W>) -> fmt::Result {
-        f.write_str(
-            match self {
-                LineFault::UnknownCommand => "unknown command",
-                LineFault::MissingWord => "missing word",
-                LineFault::ExtraWord => "extra word",
-                LineFault::NotANumber => "not a number",
-                LineFault::NotALabelWord => "not a label word",
-                LineFault::OutOfMemory => "out of memory",
-            },
-        )
+        f.write_str(self.reason())
     }
 }

@@ -23,7 +23,7 @@ pub returns-in-Break-value : need.returns-in-Break-value
 returns-in-Break-value c =
     let l : c .loop-c .c-index < length (c .args .digits .now) = omega arith in
     let d : c .from-in-loop-c .result ≡ digitValue (getD (c .args .digits .now) (c .loop-c .c-index) 0) =
-        c .from-in-loop-c .ensures ∙ c .in-Continue-digit .ensures tt .checked .1 ∙ ap digitValue (c .from .ensures) in
+    c .from-in-loop-c .ensures ∙ c .in-Continue-digit .ensures tt .checked .1 ∙ ap digitValue (c .from .ensures) in
     rw (c .from-residual-in-Break-value .ensures)
     (too-large _ _ _ l (c .loop-c .inv .0) (λ fits. c .in-Break-value .ensures tt (omega (arith, c .in-Continue-checked-mul .ensures tt .1))))
 

@@ -16,5 +16,5 @@ returns-in-None c =
 pub returns-in-Some : need.returns-in-Some
 returns-in-Some c =
     let (cut, rest) =
-        a-line _ _ _ _ _ _ (c .find .ensures) (c .split-at .ensures .front) (c .split-at .ensures .back) (c .in-Some .ensures tt .cases .0) in
+    a-line _ _ _ _ _ _ (c .find .ensures) (c .split-at .ensures .front) (c .split-at .ensures .back) (c .in-Some .ensures tt .cases .0) in
     record { steps = (c .without-return .ensures ∙ cut, rest); goes = search needs }
