@@ -33,3 +33,6 @@ pub use taking_apart::take_apart;
 pub use word::WORD_BITS;
 pub use word::Word;
 pub use writing::write;
+
+#[cfg(test)]
+mod tests;
