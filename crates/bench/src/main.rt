@@ -1,5 +1,7 @@
 // Measures how long it takes to read a word and to find a label between two, under plan 4.
 // `bench COUNT` prints checksums over COUNT calls of each kind and the nanoseconds for one; with no word it makes 1000 calls of each and prints the checksums alone.
+#![tactic(auto)]
+
 mod inputs;
 mod random;
 mod sums;

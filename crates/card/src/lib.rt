@@ -1,4 +1,6 @@
 // Cards, the words that they are stored as, and why a word or numbers may make none.
+#![tactic(auto)]
+
 pub mod bounded;
 pub mod fault;
 pub mod firing;

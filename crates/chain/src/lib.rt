@@ -1,4 +1,6 @@
 // The chain: a keeping shelf in memory handed in that never moves a row.
+#![tactic(auto)]
+
 mod chain;
 mod link;
 mod seat;

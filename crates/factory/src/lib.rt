@@ -1,4 +1,6 @@
 // The factory shelf: the sheet that a furnace comes with, for reading only.
+#![tactic(auto)]
+
 mod factory;
 mod programme;
 

@@ -1,4 +1,6 @@
 // The program `kushrebat`: reads a script, carries it out line by line, and prints an answer for each command.
+#![tactic(auto)]
+
 mod answer;
 mod command;
 mod help;

@@ -1,4 +1,6 @@
 // Labels of places in a tree: their words, reading and writing them, and the order in which they are read.
+#![tactic(auto)]
+
 mod fault;
 mod leading;
 mod piece;

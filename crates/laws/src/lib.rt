@@ -1,4 +1,6 @@
 // The laws of a sheet: what its calls mean, how each is answered, and three laws that hold of every run of calls.
+#![tactic(auto)]
+
 mod facts;
 mod phase;
 mod place;

@@ -1,4 +1,6 @@
 // The neighbours of a new place among the rows of any shelf, and what stands below a label.
+#![tactic(auto)]
+
 mod below;
 mod child;
 mod next;

@@ -1,4 +1,6 @@
 // The permit of a furnace, and the hold on it.
+#![tactic(auto)]
+
 mod hold;
 mod permit;
 

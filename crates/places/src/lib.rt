@@ -1,4 +1,6 @@
 // What the rows of a sheet say of a place: the row that a label has, whether a place may be struck or settled, and the label that a new place gets.
+#![tactic(auto)]
+
 mod fault;
 mod head;
 mod opening;

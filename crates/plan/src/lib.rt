@@ -1,4 +1,6 @@
 // Width plans: how many bits a subvalue of a label takes, by its level (from 1) and its position in the level (from 0).
+#![tactic(auto)]
+
 mod any;
 mod by_level;
 mod by_position;

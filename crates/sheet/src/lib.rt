@@ -1,4 +1,6 @@
 // A sheet: the firing programme of one casting flask, and the calls on it.
+#![tactic(auto)]
+
 mod note;
 mod sheet;
 

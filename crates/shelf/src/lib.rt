@@ -1,4 +1,6 @@
 // Shelves: lists of rows by their labels, what every shelf promises, and the ordered table, which keeps its rows in memory handed in.
+#![tactic(auto)]
+
 mod fault;
 mod keeping;
 mod lent;
