@@ -10,7 +10,7 @@ use plan::WidthPlan;
 
 // The end of the words that a label leads: it leads exactly the lawful labels with a greater word that is below this one. None where it leads nothing, since it has all bits of a word.
 pub fn led_end<P: WidthPlan>(plan: &P, word: Word) -> Result<Option<Word>, LabelFault>
-    ensures { EndsLed (width plan.now) word_bits word result }
+    ensures { EndsLed (P.width plan.now) word_bits word result }
 {
     let reading = read(plan, word)?;
     if reading.bits >= WORD_BITS {

@@ -28,7 +28,7 @@ fn front(word: Word, bits: u32) -> Word
 
 // Reads a word piece by piece, from bit 0 on.
 fn read_pieces<P: WidthPlan>(plan: &P, word: Word) -> Result<WordReading, LabelFault>
-    ensures { result ≡ answer (width plan.now) word_bits (label_of (width plan.now) word_bits word) }
+    ensures { result ≡ answer (P.width plan.now) word_bits (label_of (P.width plan.now) word_bits word) }
 {
     let mut left = WORD_BITS;
     let mut rest = word;
@@ -71,7 +71,7 @@ fn read_pieces<P: WidthPlan>(plan: &P, word: Word) -> Result<WordReading, LabelF
 
 // Reads a word under a plan: what its label has, or the fault at which reading stops.
 pub fn read<P: WidthPlan>(plan: &P, word: Word) -> Result<WordReading, LabelFault>
-    ensures reads { Reads (width plan.now) word_bits word result }
+    ensures reads { Reads (P.width plan.now) word_bits word result }
     ensures sized { IfOk result (λ reading. (1 ≤ reading.bits) × (reading.bits ≤ word_bits)) }
 {
     read_pieces(plan, word)

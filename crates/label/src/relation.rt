@@ -53,7 +53,7 @@ fn relation_of(a: Word, a_bits: u32, b: Word, b_bits: u32) -> Relation
 
 // The relation of two words; a fault of the first comes before one of the second.
 pub fn relate<P: WidthPlan>(plan: &P, a: Word, b: Word) -> Result<Relation, LabelFault>
-    ensures { Relates (width plan.now) word_bits a b result }
+    ensures { Relates (P.width plan.now) word_bits a b result }
 {
     let first = read(plan, a)?;
     let second = read(plan, b)?;

@@ -26,8 +26,8 @@ fn subvalue(value: Word, ends_level: bool) -> Subvalue
 
 // The subvalues of the lawful label whose word it is.
 fn subvalues<P: WidthPlan>(plan: &P, word: Word) -> Spelling
-    requires { (c : Label) × Of (width plan.now) word_bits c word }
-    ensures { (c : Label) → Of (width plan.now) word_bits c word → listed result ≡ spelling c }
+    requires { (c : Label) × Of (P.width plan.now) word_bits c word }
+    ensures { (c : Label) → Of (P.width plan.now) word_bits c word → listed result ≡ spelling c }
 {
     let mut spelling = Spelling::empty();
     let mut left = WORD_BITS;
@@ -61,7 +61,7 @@ fn subvalues<P: WidthPlan>(plan: &P, word: Word) -> Spelling
 
 // The subvalues of a word's label, or the fault at which reading it stops.
 pub fn take_apart<P: WidthPlan>(plan: &P, word: Word) -> Result<Spelling, LabelFault>
-    ensures { TakesApart (width plan.now) word_bits word result }
+    ensures { TakesApart (P.width plan.now) word_bits word result }
 {
     read(plan, word)?;
     Ok(subvalues(plan, word))

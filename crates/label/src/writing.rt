@@ -66,7 +66,7 @@ fn spell<P: WidthPlan>(
     left: u32,
 ) -> Option<Word>
     requires { (left ≤ word_bits) × (level + left ≤ word_bits + 1) × (position + left ≤ word_bits) }
-    ensures { WritesFrom (width plan.now) left level position subvalues.now result }
+    ensures { WritesFrom (P.width plan.now) left level position subvalues.now result }
 {
     if subvalues.is_empty() {
         return None;
@@ -86,7 +86,7 @@ fn spell<P: WidthPlan>(
 
 // The word of the lawful label that the subvalues spell, or none where they spell no lawful label.
 pub fn write<P: WidthPlan>(plan: &P, subvalues: &[Subvalue]) -> Option<Word>
-    ensures { Writes (width plan.now) word_bits subvalues.now result }
+    ensures { Writes (P.width plan.now) word_bits subvalues.now result }
 {
     spell(plan, subvalues, 1, 0, WORD_BITS)
 }

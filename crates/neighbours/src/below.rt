@@ -12,7 +12,7 @@ use shelf::{Reading, State};
 
 // Whether a word is a lawful label's.
 fn is_label<P: WidthPlan>(plan: &P, word: Word) -> bool
-    ensures { Decides result (T ((labels_of (width plan.now) word_bits).lawful word)) }
+    ensures { Decides result (T ((labels_of (P.width plan.now) word_bits).lawful word)) }
 {
     match read(plan, word) {
         Ok(_) => true,
@@ -33,7 +33,7 @@ fn is_in_use(state: State) -> bool
 
 // The end of the words that a label leads, or none where it leads nothing.
 fn led_up_to<P: WidthPlan>(plan: &P, label: Word) -> Option<Word>
-    ensures { LedEnd (labels_of (width plan.now) word_bits) label result }
+    ensures { LedEnd (labels_of (P.width plan.now) word_bits) label result }
 {
     match led_end(plan, label) {
         Ok(end) => end,

@@ -10,7 +10,7 @@ use shelf::Reading;
 
 // Whether the label of a word has this parent.
 fn has_parent<P: WidthPlan>(plan: &P, word: Word, parent: Word) -> bool
-    ensures { Decides result ((labels_of (width plan.now) word_bits).parent word ≡ Some parent) }
+    ensures { Decides result ((labels_of (P.width plan.now) word_bits).parent word ≡ Some parent) }
 {
     match read(plan, word) {
         Ok(reading) => match reading.parent {
@@ -23,7 +23,7 @@ fn has_parent<P: WidthPlan>(plan: &P, word: Word, parent: Word) -> bool
 
 // The word below which all children of `parent` are, or none where it can have no children: it is no label, or it has all bits of a word.
 pub(crate) fn children_end<P: WidthPlan>(plan: &P, parent: Word) -> Option<Word>
-    ensures { ChildrenEnd (labels_of (width plan.now) word_bits) parent result }
+    ensures { ChildrenEnd (labels_of (P.width plan.now) word_bits) parent result }
 {
     match led_end(plan, parent) {
         Ok(end) => end,

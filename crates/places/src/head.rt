@@ -8,7 +8,7 @@ use plan::WidthPlan;
 
 // The label of the head: one level with the one subvalue 1.
 pub fn head_label<P: WidthPlan>(plan: &P) -> Word
-    ensures { result ≡ (labels_of (width plan.now) word_bits).head }
+    ensures { result ≡ (labels_of (P.width plan.now) word_bits).head }
 {
     1 << (WORD_BITS - plan.width(1, 0))
 }

@@ -19,7 +19,7 @@ use shelf::Reading;
 
 // The parent of a label's word; none at level 1, and for a word that is no label's.
 fn parent_of<P: WidthPlan>(plan: &P, label: Word) -> Option<Word>
-    ensures { (labels_of (width plan.now) word_bits).parent label ≡ result }
+    ensures { (labels_of (P.width plan.now) word_bits).parent label ≡ result }
 {
     match read(plan, label) {
         Ok(reading) => reading.parent,
@@ -29,7 +29,7 @@ fn parent_of<P: WidthPlan>(plan: &P, label: Word) -> Option<Word>
 
 // The parent of a new place that is opened at a label: the place of that label, or its parent.
 fn parent_for<P: WidthPlan>(plan: &P, place: Where, label: Word) -> Option<Word>
-    ensures { above_new (labels_of (width plan.now) word_bits) place label ≡ result }
+    ensures { above_new (labels_of (P.width plan.now) word_bits) place label ≡ result }
 {
     match place {
         Where::FirstUnder | Where::LastUnder => Some(label),
@@ -39,7 +39,7 @@ fn parent_for<P: WidthPlan>(plan: &P, place: Where, label: Word) -> Option<Word>
 
 // Whether a new place would come beside the head.
 fn is_beside_head<P: WidthPlan>(plan: &P, place: Where, label: Word) -> bool
-    ensures { Decides result (T (beside place) × (label ≡ (labels_of (width plan.now) word_bits).head)) }
+    ensures { Decides result (T (beside place) × (label ≡ (labels_of (P.width plan.now) word_bits).head)) }
 {
     match place {
         Where::FirstUnder | Where::LastUnder => false,

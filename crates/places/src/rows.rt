@@ -14,7 +14,7 @@ use shelf::{Reading, Row, State};
 
 // The row with a label and its index, or none.
 pub(crate) fn row_of<S: Reading>(shelf: &S, label: Word) -> Option<(usize, Row)>
-    ensures { RowOf (rows shelf.now) label result }
+    ensures { RowOf (S.rows shelf.now) label result }
 {
     let Some(index) = shelf.find(label) else {
         return None;
@@ -27,7 +27,7 @@ pub(crate) fn row_of<S: Reading>(shelf: &S, label: Word) -> Option<(usize, Row)>
 
 // Whether the row with a label is filled; a label with no row has none that is.
 pub(crate) fn is_filled<S: Reading>(shelf: &S, label: Word) -> bool
-    ensures { Decides result (StandsAs Filled (rows shelf.now) label) }
+    ensures { Decides result (StandsAs Filled (S.rows shelf.now) label) }
 {
     match row_of(shelf, label) {
         Some((_, row)) => row.state == State::Filled,
@@ -54,7 +54,7 @@ pub fn known_row<P: WidthPlan, S: Reading>(
 
 // The index of the opened row with a note's label. Refused where no opened row has it.
 pub fn opened_row<S: Reading>(shelf: &S, label: Word) -> Result<usize, SheetFault>
-    ensures { Checked (note-checks (rows shelf.now) label) (λ (i : ℕ). (row : Row) × IsRow (rows shelf.now) label i row) result }
+    ensures { Checked (note-checks (S.rows shelf.now) label) (λ (i : ℕ). (row : Row) × IsRow (S.rows shelf.now) label i row) result }
 {
     match row_of(shelf, label) {
         Some((index, row)) => {

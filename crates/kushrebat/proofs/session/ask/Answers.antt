@@ -3,4 +3,4 @@ use Rattle.kushrebat.proofs.session.ask.Goals as goal
 
 pub returns : goal.returns
 returns c =
-    inl (c.in-ok-reading.reading, c.in-ok-text.text, refl, c.in-ok-reading.ensures.reads, c.in-ok-text.ensures)
+    inl (c.in_ok-reading.reading, c.in_ok-text.text, refl, c.in_ok-reading.ensures.reads, c.in_ok-text.ensures)

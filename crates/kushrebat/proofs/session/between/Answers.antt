@@ -4,12 +4,12 @@ use Rattle.plan.specs.Plans.{by_either}
 use Rattle.kushrebat.proofs.Carried.{found, never_stops}
 use Rattle.kushrebat.proofs.session.between.Goals as goal
 
-pub returns-in-err-text : goal.returns-in-err-text
-returns-in-err-text c =
-    let place = found (by_either c.args.plan.now) word_bits _ _ _ _ _ c.in-Some.is c.in-ok-between.ensures in
-    absurd (never_stops (by_either c.args.plan.now) word_bits _ _ _ _ _ place c.in-err-text.ensures)
+pub returns-in_err-text : goal.returns-in_err-text
+returns-in_err-text c =
+    let place = found (by_either c.args.plan.now) word_bits _ _ _ _ _ c.in-Some.is c.in_ok-between.ensures in
+    absurd (never_stops (by_either c.args.plan.now) word_bits _ _ _ _ _ place c.in_err-text.ensures)
 
 pub returns : goal.returns
 returns c =
-    let place = found (by_either c.args.plan.now) word_bits _ _ _ _ _ c.in-Some.is c.in-ok-between.ensures in
-    inl (c.in-Some.word, c.in-ok-text.text, refl, place, c.in-ok-text.ensures)
+    let place = found (by_either c.args.plan.now) word_bits _ _ _ _ _ c.in-Some.is c.in_ok-between.ensures in
+    inl (c.in-Some.word, c.in_ok-text.text, refl, place, c.in_ok-text.ensures)

@@ -12,17 +12,17 @@ pieces-init g c =
 pub returns-in-Missing : goal.returns-in-Missing
 returns-in-Missing g c = gather_missing _ word_bits _ _ _ _ _ _ _ c.width-width.ensures c.pieces.invariant.4 c.in-Missing.ensures
 
-pub returns-then-not-may-close : goal.returns-then-not-may-close
-returns-then-not-may-close g c =
-    gather_zero_end _ word_bits _ _ _ _ _ _ _ c.width-width.ensures c.pieces.invariant.4 _ c.if-not-may-close.ensures c.in-Ends.ensures
+pub returns-then-not-may_close : goal.returns-then-not-may_close
+returns-then-not-may_close g c =
+    gather_zero_end _ word_bits _ _ _ _ _ _ _ c.width-width.ensures c.pieces.invariant.4 _ c.if-not-may_close.ensures c.in-Ends.ensures
 
 pub returns-in-Ends : goal.returns-in-Ends
 returns-in-Ends g c =
-    gather_ends _ word_bits _ _ _ _ _ _ _ c.width-width.ensures c.pieces.invariant.4 _ c.if-not-may-close.ensures c.in-Ends.ensures
+    gather_ends _ word_bits _ _ _ _ _ _ _ c.width-width.ensures c.pieces.invariant.4 _ c.if-not-may_close.ensures c.in-Ends.ensures
 
-pub returns-then-not-may-close-2 : goal.returns-then-not-may-close-2
-returns-then-not-may-close-2 g c =
-    gather_zero_down _ word_bits _ _ _ _ _ _ _ c.width-width.ensures c.pieces.invariant.4 _ _ c.if-not-may-close-2.ensures c.in-GoesDown.ensures
+pub returns-then-not-may_close-2 : goal.returns-then-not-may_close-2
+returns-then-not-may_close-2 g c =
+    gather_zero_down _ word_bits _ _ _ _ _ _ _ c.width-width.ensures c.pieces.invariant.4 _ _ c.if-not-may_close-2.ensures c.in-GoesDown.ensures
 
 pub pieces-preserved-in-GoesOn : goal.pieces-preserved-in-GoesOn
 pieces-preserved-in-GoesOn g c =
@@ -50,6 +50,6 @@ pieces-preserved g c =
       subst (λ (j : ℕ). c.in-GoesDown.behind < 2 ^ j) (sym m) t.2,
       omega (arith, t.0),
       omega (arith, t.0),
-      gather_down _ word_bits _ _ _ _ _ _ _ c.width-width.ensures c.pieces.invariant.4 _ _ _ _ c.if-not-may-close-2.ensures t.0 m
+      gather_down _ word_bits _ _ _ _ _ _ _ c.width-width.ensures c.pieces.invariant.4 _ _ _ _ c.if-not-may_close-2.ensures t.0 m
           (c.front.ensures ∙ ap (cut c.args.word) at) is,
     )

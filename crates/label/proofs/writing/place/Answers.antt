@@ -3,8 +3,8 @@ use Rattle.label.specs.Label.{word_bits}
 use Rattle.label.proofs.Pieces.{in_front}
 use Rattle.label.proofs.writing.place.Goals as goal
 
-pub overflow-mul-result : goal.overflow-mul-result
-overflow-mul-result c =
+pub overflow_mul-result : goal.overflow_mul-result
+overflow_mul-result c =
     let s : ℕ = c.from-value.result in
     let k : ℕ = c.args.width in
     let n : ℕ = c.args.left in

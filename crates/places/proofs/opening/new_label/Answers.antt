@@ -7,17 +7,17 @@ use Rattle.places.proofs.opening.new_label.Goals as goal
 
 pub unreachable-requires : goal.unreachable-requires
 unreachable-requires g c =
-    let parent = c.in-ok-parent.ensures in
+    let parent = c.in_ok-parent.ensures in
     parent_reads (g.P.WidthPlan.width c.args.plan.now) word_bits (g.S.Reading.rows c.args.shelf.now) c.args.label c.args.place parent.0
-    c.in-ok-parent.parent parent.1 c.in-default.field-0 c.in-default.ensures
+    c.in_ok-parent.parent parent.1 c.in_default.field-0 c.in_default.ensures
 
 pub returns-in-Some : goal.returns-in-Some
 returns-in-Some g c =
     let w = g.P.WidthPlan.width c.args.plan.now in
     let L = labels_of w word_bits in
     let S = plan_sound w (g.met.P.WidthPlan.low c.args.plan.now) (g.met.P.WidthPlan.high c.args.plan.now) in
-    let parent = c.in-ok-parent.ensures in
-    let p = c.in-ok-parent.parent in
+    let parent = c.in_ok-parent.ensures in
+    let p = c.in_ok-parent.parent in
     let l = c.neighbours-lower.result.0 in
     let u = c.neighbours-lower.result.1 in
     label_found L S (g.S.Reading.rows c.args.shelf.now) c.args.label c.args.place parent.0 p parent.1 l u c.neighbours-lower.ensures c.in-Some.new
@@ -28,8 +28,8 @@ returns-in-None g c =
     let w = g.P.WidthPlan.width c.args.plan.now in
     let L = labels_of w word_bits in
     let S = plan_sound w (g.met.P.WidthPlan.low c.args.plan.now) (g.met.P.WidthPlan.high c.args.plan.now) in
-    let parent = c.in-ok-parent.ensures in
-    let p = c.in-ok-parent.parent in
+    let parent = c.in_ok-parent.ensures in
+    let p = c.in_ok-parent.parent in
     let l = c.neighbours-lower.result.0 in
     let u = c.neighbours-lower.result.1 in
     none_left L S (g.S.Reading.rows c.args.shelf.now) c.args.label c.args.place parent.0 p parent.1 l u c.neighbours-lower.ensures

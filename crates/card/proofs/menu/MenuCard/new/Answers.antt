@@ -7,6 +7,6 @@ use Rattle.card.proofs.menu.MenuCard.new.Goals as goal
 -- the card that is made is the one that `menu_of` makes
 pub returns : goal.returns
 returns c = record {
-  made = sym (ap (λ o. ok_or o NoCard) (some_menu _ c.args.length c.args.action c.in-ok-length.ensures.exact c.in-ok-action.ensures.exact));
+  made = sym (ap (λ o. ok_or o NoCard) (some_menu _ c.args.length c.args.action c.in_ok-length.ensures.exact c.in_ok-action.ensures.exact));
   lawful = search rules;
 }

@@ -3,8 +3,8 @@ use Rattle.chain.specs.Chains.{ComesBehind}
 use Rattle.chain.proofs.Hooks.{behind_inside}
 use Rattle.chain.proofs.chain.Chain.hook.Goals as goal
 
-pub hook-first-requires : goal.hook-first-requires
-hook-first-requires c =
+pub hook_first-requires : goal.hook_first-requires
+hook_first-requires c =
     let chain = c.args.self.now in
     record {
       absent = c.requires.absent;
@@ -12,8 +12,8 @@ hook-first-requires c =
       behind = subst (ComesBehind chain c.args.row.label) c.in-None.is c.requires.behind;
     }
 
-pub hook-behind-requires : goal.hook-behind-requires
-hook-behind-requires c =
+pub hook_behind-requires : goal.hook_behind-requires
+hook_behind-requires c =
     let chain = c.args.self.now in
     let behind = subst (ComesBehind chain c.args.row.label) c.in-Some.is c.requires.behind in
     record {

@@ -6,8 +6,8 @@ use Rattle.chain.proofs.Walks.{length_walked}
 use Rattle.chain.proofs.Hooks.{behind_hooked, hooked_rows, hooked_inside, hooked_rising, walked_free, inside_free}
 use Rattle.chain.proofs.chain.Chain.hook_behind.Goals as goal
 
-pub invariant-of-self : goal.invariant-of-self
-invariant-of-self c =
+pub invariant_of-self : goal.invariant_of-self
+invariant_of-self c =
     let chain = c.args.self.now in
     let ls = chain.links.now in (
       chain.few,
@@ -20,8 +20,8 @@ invariant-of-self c =
       ),
     )
 
-pub invariant-of-self-2 : goal.invariant-of-self-2
-invariant-of-self-2 c =
+pub invariant_of-self-2 : goal.invariant_of-self-2
+invariant_of-self-2 c =
     let chain = c.args.self.now in
     let ls = chain.links.now in
     let room : chain.len < min (length ls) most_rows = c.requires.room in

@@ -5,8 +5,8 @@ use Rattle.chain.proofs.Walks.{length_walked}
 use Rattle.chain.proofs.Hooks.{first_hooked, hooked_rows, hooked_inside, hooked_rising}
 use Rattle.chain.proofs.chain.Chain.hook_first.Goals as goal
 
-pub invariant-of-self : goal.invariant-of-self
-invariant-of-self c =
+pub invariant_of-self : goal.invariant_of-self
+invariant_of-self c =
     let chain = c.args.self.now in
     let ls = chain.links.now in
     let room : chain.len < min (length ls) most_rows = c.requires.room in

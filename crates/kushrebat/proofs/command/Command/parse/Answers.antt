@@ -5,5 +5,5 @@ use Rattle.kushrebat.proofs.command.Command.parse.Goals as goal
 
 pub returns : goal.returns
 returns c =
-    let first = ap words_of (sym (c.of-words.ensures ∙ c.without-comment.ensures)) ∙ c.in-Some.ensures in
-    spelled _ _ _ _ _ first c.in-Some-named.ensures c.in-ok-command.ensures
+    let first = ap words_of (sym (c.of-words.ensures ∙ c.without_comment.ensures)) ∙ c.in-Some.ensures in
+    spelled _ _ _ _ _ first c.in-Some-named.ensures c.in_ok-command.ensures

@@ -16,4 +16,4 @@ returns g c =
     let s = c.args.self.now in
     let sound = plan_sound (g.P.WidthPlan.width s.plan) (g.met.P.WidthPlan.low s.plan) (g.met.P.WidthPlan.high s.plan) in
     starts g.P.WidthPlan g.S.Reading g.S.Keeping g.C.Card s sound c.args.permit.now.on c.if-not-self.false c.turn.result c.turn.new.self
-    (subst (λ (b : Bool). Turned s (Start b) c.turn.result c.turn.new.self) c.is-on.ensures c.turn.ensures)
+    (subst (λ (b : Bool). Turned s (Start b) c.turn.result c.turn.new.self) c.is_on.ensures c.turn.ensures)

@@ -13,8 +13,8 @@ insert-requires c =
     let le = rank_le (take t.len t.slots.rows.now) c.args.row.label in
     record { within = omega (arith, c.requires.rank); room = omega (arith, c.requires.room) }
 
-pub invariant-of-self : goal.invariant-of-self
-invariant-of-self c =
+pub invariant_of-self : goal.invariant_of-self
+invariant_of-self c =
     let t = c.args.self.now in
     let len = length-take-le t.len t.slots.rows.now t.fits in
     let put = inserted_is_put _ _ c.args.row _ c.insert.ensures.front c.requires.rank in

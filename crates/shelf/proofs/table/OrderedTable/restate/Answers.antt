@@ -5,8 +5,8 @@ use Rattle.shelf.specs.Rows.{blank, restated, most_rows}
 use Rattle.shelf.proofs.Fronts.{rising_front}
 use Rattle.shelf.proofs.table.OrderedTable.restate.Goals as goal
 
-pub invariant-of-self : goal.invariant-of-self
-invariant-of-self c =
+pub invariant_of-self : goal.invariant_of-self
+invariant_of-self c =
     let t = c.args.self.now in
     let len = length-take-le t.len t.slots.rows.now t.fits in
     let up = rising_front t.slots.rows.now t.len c.args.index c.restated.result (omega (arith, c.requires))

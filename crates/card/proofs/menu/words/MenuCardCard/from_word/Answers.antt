@@ -8,4 +8,4 @@ use Rattle.card.proofs.menu.words.MenuCardCard.from_word.Goals as goal
 pub returns : goal.returns
 returns c =
     let w : ℕ = c.args.word in
-    record { made = c.card-in.ensures; lawful = subst (Reads code (LawfulWord w) w) (sym c.card-in.ensures) (reads_lawful w) }
+    record { made = c.card_in.ensures; lawful = subst (Reads code (LawfulWord w) w) (sym c.card_in.ensures) (reads_lawful w) }
