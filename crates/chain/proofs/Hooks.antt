@@ -1,5 +1,5 @@
 -- A link hooked into a chain is a row inserted into its list. Assumes nothing.
-use Rattle.std.proofs.Common.{◌≡◌, ℕ, zero, suc, ◌+◌, ◌-◌, ◌<◌, ◌≤◌, ◌≢◌, ◌⊎◌, List, length, get_or, set, Some, None, sym, refl, ap, ◌∙◌, subst, inl, inr, ⊎_elim, add_one, arith}
+use Rattle.std.proofs.Common.{◌≡◌, ℕ, zero, suc, ◌+◌, ◌-◌, ◌<◌, ◌≤◌, ◌≢◌, ◌⊎◌, List, length, get_or, set, Some, None, sym, refl, ap, ◌∙◌, subst, inl, inr, ⊎_elim, add-one, arith}
 use mathlib.Core.Path.{subst⁻¹}
 use Rattle.std.specs.List.{insert}
 use Rattle.std.proofs.lemmas.Bool.{cases_lt, cases_eq}
@@ -40,7 +40,7 @@ module _ (ls : List Link) (h : ℕ) (ls' : List Link) (h' n k : ℕ) (r : Row) (
   placed i d p (here q e) =
       getD_walked ls' h' (n + 1) i d p ∙ ap (λ j. (link_at ls' (slot_at ls' h' j)).row) q ∙ ap (λ s. (link_at ls' s).row) hook.new ∙ hook.new_row ∙ sym e
   placed i d p (high j q s e) =
-      getD_walked ls' h' (n + 1) i d p ∙ ap (λ m. (link_at ls' (slot_at ls' h' m)).row) (s ∙ add_one j)
+      getD_walked ls' h' (n + 1) i d p ∙ ap (λ m. (link_at ls' (slot_at ls' h' m)).row) (s ∙ add-one j)
       ∙ row_of_slot _ _ (hook.behind j q (omega arith)) (hook.inside j (omega arith)) ∙ sym (e ∙ getD_walked ls h n j d (omega arith))
 
   pub hooked_rows : walked ls' h' (n + 1) ≡ insert (walked ls h n) k r

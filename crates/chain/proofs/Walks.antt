@@ -1,5 +1,5 @@
 -- What a walk along links visits. Assumes nothing.
-use Rattle.std.proofs.Common.{◌≡◌, ℕ, zero, suc, ◌+◌, ◌-◌, ◌<◌, ◌≤◌, List, length, get_or, Some, None, Ok, Err, Option, sym, refl, ap, ◌∙◌, subst, ⊎_elim, add_one, arith}
+use Rattle.std.proofs.Common.{◌≡◌, ℕ, zero, suc, ◌+◌, ◌-◌, ◌<◌, ◌≤◌, List, length, get_or, Some, None, Ok, Err, Option, sym, refl, ap, ◌∙◌, subst, ⊎_elim, add-one, arith}
 use Rattle.std.proofs.lemmas.Bool.{cases_order}
 use Rattle.shelf.specs.declared.row.Row.{Row}
 use Rattle.shelf.specs.Rows.{blank, row_at, label_at, Rising, rank_of, Sought}
@@ -17,7 +17,7 @@ slot_suc ls h zero = refl
 slot_suc ls h (suc j) = slot_suc ls (link_at ls h).next j
 
 pub slot_more : (ls : List Link) (h j s : ℕ) → s ≡ slot_at ls h j → (link_at ls s).next ≡ slot_at ls h (j + 1)
-slot_more ls h j s e = ap (λ i. (link_at ls i).next) e ∙ sym (slot_suc ls h j) ∙ ap (slot_at ls h) (sym (add_one j))
+slot_more ls h j s e = ap (λ i. (link_at ls i).next) e ∙ sym (slot_suc ls h j) ∙ ap (slot_at ls h) (sym (add-one j))
 
 -- the row at an index is that of its slot
 pub getD_walked : (ls : List Link) (h n j : ℕ) (d : Row) → j < n → get_or (walked ls h n) j d ≡ (link_at ls (slot_at ls h j)).row

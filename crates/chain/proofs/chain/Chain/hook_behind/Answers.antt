@@ -9,16 +9,14 @@ use Rattle.chain.proofs.chain.Chain.hook_behind.Goals as goal
 pub invariant_of-self : goal.invariant_of-self
 invariant_of-self c =
     let chain = c.args.self.now in
-    let ls = chain.links.now in (
-      chain.few,
-      (
-        simp length-set chain.fits,
-        (
-          inside_free ls chain.head chain.len _ chain.inside,
-          (length_walked _ _ _, (subst⁻¹ Rising (walked_free ls chain.head chain.len _ chain.inside) chain.rising, tt)),
-        ),
-      ),
-    )
+    let ls = chain.links.now in
+    record {
+      few = chain.few;
+      fits = simp length-set chain.fits;
+      inside = inside_free ls chain.head chain.len _ chain.inside;
+      long = length_walked _ _ _;
+      rising = subst⁻¹ Rising (walked_free ls chain.head chain.len _ chain.inside) chain.rising;
+    }
 
 pub invariant_of-self-2 : goal.invariant_of-self-2
 invariant_of-self-2 c =
@@ -26,7 +24,13 @@ invariant_of-self-2 c =
     let ls = chain.links.now in
     let room : chain.len < min (length ls) most_rows = c.requires.room in
     let hook = behind_hooked ls chain.head chain.len c.args.row (omega arith) chain.inside c.args.slot chain.rising c.requires.behind in
-    (omega arith, (simp length-set (omega arith), (hooked_inside _ _ _ _ _ _ _ hook, (length_walked _ _ _, (hooked_rising _ _ _ _ _ _ hook chain.rising c.requires.absent, tt)))))
+    record {
+      few = omega arith;
+      fits = simp length-set (omega arith);
+      inside = hooked_inside _ _ _ _ _ _ _ hook;
+      long = length_walked _ _ _;
+      rising = hooked_rising _ _ _ _ _ _ hook chain.rising c.requires.absent;
+    }
 
 pub returns : goal.returns
 returns c =

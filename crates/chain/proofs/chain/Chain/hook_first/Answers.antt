@@ -11,7 +11,13 @@ invariant_of-self c =
     let ls = chain.links.now in
     let room : chain.len < min (length ls) most_rows = c.requires.room in
     let hook = first_hooked ls chain.head chain.len c.args.row (omega arith) chain.inside c.requires.behind in
-    (omega arith, (simp length-set (omega arith), (hooked_inside _ _ _ _ _ _ _ hook, (length_walked _ _ _, (hooked_rising _ _ _ _ _ _ hook chain.rising c.requires.absent, tt)))))
+    record {
+      few = omega arith;
+      fits = simp length-set (omega arith);
+      inside = hooked_inside _ _ _ _ _ _ _ hook;
+      long = length_walked _ _ _;
+      rising = hooked_rising _ _ _ _ _ _ hook chain.rising c.requires.absent;
+    }
 
 pub returns : goal.returns
 returns c =

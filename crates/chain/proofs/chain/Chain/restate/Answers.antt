@@ -16,7 +16,7 @@ invariant_of-self c =
     let inside = reset_inside ls chain.head chain.len c.args.index at c.restated.result h c.slot_at.ensures.at in-ls chain.rising chain.inside in
     let up = reset_rising ls chain.head chain.len c.args.index at c.restated.result h c.slot_at.ensures.at in-ls chain.rising
     (ap (λ r. r.label) c.restated.ensures) in
-    (chain.few, (simp length-set chain.fits, (inside, (length_walked _ chain.head chain.len, (up, tt)))))
+    record { few = chain.few; fits = simp length-set chain.fits; inside = inside; long = length_walked _ chain.head chain.len; rising = up }
 
 pub returns : goal.returns
 returns c =

@@ -19,4 +19,4 @@ invariant_of-self c =
     let len = length-take-le t.len t.slots.rows.now t.fits in
     let put = inserted_is_put _ _ c.args.row _ c.insert.ensures.front c.requires.rank in
     let up = rising_with_row (take t.len t.slots.rows.now) c.args.row t.rising c.requires.absent in
-    (omega (arith, c.requires.room), (omega (arith, c.requires.room, c.insert.ensures.long), (subst⁻¹ Rising put up, tt)))
+    record { few = omega (arith, c.requires.room); fits = omega (arith, c.requires.room, c.insert.ensures.long); rising = subst⁻¹ Rising put up }

@@ -11,7 +11,7 @@ invariant_of-self c =
     let len = length-take-le t.len t.slots.rows.now t.fits in
     let up = rising_front t.slots.rows.now t.len c.args.index c.restated.result (omega (arith, c.requires))
     (ap (λ r. r.label) c.restated.ensures) t.rising in
-    (t.few, (simp length-set t.fits, (up, tt)))
+    record { few = t.few; fits = simp length-set t.fits; rising = up }
 
 pub returns : goal.returns
 returns c =
