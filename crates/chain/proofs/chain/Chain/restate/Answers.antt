@@ -10,11 +10,11 @@ pub invariant_of-self : goal.invariant_of-self
 invariant_of-self c =
     let chain = c.args.self.now in
     let ls = chain.links.now in
-    let at = c.slot_at.result in
+    let at = c.slot-at.result in
     let h : c.args.index < chain.len = omega (arith, c.requires, chain.long) in
-    let in-ls : at < length ls = omega (arith, c.slot_at.ensures.inside, chain.fits) in
-    let inside = reset_inside ls chain.head chain.len c.args.index at c.restated.result h c.slot_at.ensures.at in-ls chain.rising chain.inside in
-    let up = reset_rising ls chain.head chain.len c.args.index at c.restated.result h c.slot_at.ensures.at in-ls chain.rising
+    let in-ls : at < length ls = omega (arith, c.slot-at.ensures.inside, chain.fits) in
+    let inside = reset_inside ls chain.head chain.len c.args.index at c.restated.result h c.slot-at.ensures.at in-ls chain.rising chain.inside in
+    let up = reset_rising ls chain.head chain.len c.args.index at c.restated.result h c.slot-at.ensures.at in-ls chain.rising
     (ap (λ r. r.label) c.restated.ensures) in
     record { few = chain.few; fits = simp length-set chain.fits; inside = inside; long = length_walked _ chain.head chain.len; rising = up }
 
@@ -22,14 +22,14 @@ pub returns : goal.returns
 returns c =
     let chain = c.args.self.now in
     let ls = chain.links.now in
-    let at = c.slot_at.result in
+    let at = c.slot-at.result in
     let i = c.args.index in
     let h : i < chain.len = omega (arith, c.requires, chain.long) in
-    let in-ls : at < length ls = omega (arith, c.slot_at.ensures.inside, chain.fits) in
+    let in-ls : at < length ls = omega (arith, c.slot-at.ensures.inside, chain.fits) in
     record {
-      rows = reset_rows ls chain.head chain.len i at c.restated.result h c.slot_at.ensures.at in-ls chain.rising
-          ∙ ap (set (chain_rows chain) i) (c.restated.ensures ∙ ap (λ r. restated r c.args.state c.args.card) (sym c.slot_at.ensures.row));
+      rows = reset_rows ls chain.head chain.len i at c.restated.result h c.slot-at.ensures.at in-ls chain.rising
+          ∙ ap (set (chain_rows chain) i) (c.restated.ensures ∙ ap (λ r. restated r c.args.state c.args.card) (sym c.slot-at.ensures.row));
       capacity = ap (λ n. min n most_rows) (length-set ls at _);
-      stays = λ s lt. reset_stays ls chain.head chain.len i at c.restated.result h c.slot_at.ensures.at in-ls chain.rising
+      stays = λ s lt. reset_stays ls chain.head chain.len i at c.restated.result h c.slot-at.ensures.at in-ls chain.rising
           (ap (λ r. r.label) c.restated.ensures) s;
     }
