@@ -11,6 +11,7 @@ use help::{HELP, USAGE};
 use script::lines::Lines;
 use session::Session;
 use std::io::{BufWriter, Read, Write};
+use std::process::ExitCode;
 use std::{env, fmt, fs, io};
 
 // Why the program ends before its task is done.
@@ -96,10 +97,12 @@ fn run(rt: &HostRuntime) -> Result<(), Failure> {
 }
 
 // The status is 0 once the script is read to its end, whatever was turned down in it.
-fn main(rt: HostRuntime) -> Result<(), Failure> {
-    let done = run(&rt);
-    if let Err(failure) = &done {
-        let _ = eprintln!(rt; "{failure}");
+fn main(rt: HostRuntime) -> ExitCode {
+    match run(&rt) {
+        Ok(()) => ExitCode::SUCCESS,
+        Err(failure) => {
+            let _ = eprintln!(rt; "{failure}");
+            ExitCode::FAILURE
+        }
     }
-    done
 }

@@ -1,5 +1,6 @@
 // The lines of a script.
 ghost use Rattle.std.specs.Prelude.{◌≡◌, length};
+ghost use Rattle.std.specs.Iterator.{at_most};
 ghost use Rattle.kushrebat.specs.Lines.{trimmed, NextLine};
 
 use crate::script::find::find;
@@ -34,9 +35,7 @@ impl<'a> Iterator for Lines<'a> {
 
     ghost next_gives = { λ s r t. NextLine s.rest.now r t.rest.now };
 
-    ghost ends = { λ _. Unit {0} };
-
-    ghost remaining = { λ s. length s.rest.now };
+    ghost remaining = { λ s. at_most (length s.rest.now) };
 
     fn next(&mut self) -> Option<&'a [u8]> {
         let rest = self.rest;

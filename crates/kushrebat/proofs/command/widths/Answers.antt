@@ -9,7 +9,7 @@ loop-digits-preserved c =
     let width = c.width.ensures ∙ ap (λ n. min n 255) number.1 in (
       ds ++ (c.in-Some.digits.now ∷ []),
       moved_on _ ds _ _ _ is c.in-Some.ensures,
-      widths_more ds (vec_items c.loop-digits.all) (vec_items c.push.new.self) c.in-Some.digits.now c.width.result c.in_ok-push.ensures.items spelt (number.0, width),
+      widths_more ds (vec_items c.loop-digits.all) (vec_items c.push.new.self) c.in-Some.digits.now c.width.result c.in_ok-push-in-Some-number.ensures.items spelt (number.0, width),
     )
 
 pub returns-in-None : goal.returns-in-None
