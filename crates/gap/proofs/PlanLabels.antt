@@ -1,9 +1,9 @@
 -- The labels of a width plan are as the laws need them. Assumes nothing.
-use Rattle.std.proofs.Common.{◌≡◌, ℕ, ◌+◌, ◌-◌, ◌*◌, ◌^◌, ◌<◌, ◌≤◌, Bool, true, false, cond, T, ltb, Some, None, Ok, Err, Option, Result, sym, refl, ap, ◌∙◌, subst, arith, pow_pos}
+use Rattle.std.proofs.Common.{◌≡◌, ℕ, ◌-◌, ◌^◌, ◌<◌, ◌≤◌, Bool, true, false, T, ltb, Some, None, Ok, Err, Option, Result, sym, refl, ap, ◌∙◌, subst, arith, pow_pos}
 use lib.Pow.{pow-lt}
 use Rattle.std.proofs.lemmas.Bool.{cond-true, cond_both, lt-ltb, ltb-true}
 use Rattle.label.specs.declared.fault.LabelFault.{LabelFault}
-use Rattle.label.specs.Label.{Label, end, next, down, depth, parent, bits, word, Lawful, Fits}
+use Rattle.label.specs.Label.{Label, end, parent, bits, word, Lawful, Fits}
 use Rattle.label.specs.Reading.{label_of}
 use Rattle.label.specs.Relation.{leads}
 use Rattle.label.specs.Theorems.{Of}
@@ -15,7 +15,7 @@ use Rattle.label.proofs.Theorems.{read_back, read_only, same_label, led_between,
 use Rattle.gap.specs.Between.{Betweens, opening, Chosen, Answers}
 use Rattle.gap.proofs.Labels.{from_label, one_answer}
 use Rattle.gap.proofs.Options.{some_injective, none_ne_some}
-use Rattle.gap.specs.Labels.{Labels, Sound}
+use Rattle.gap.specs.Labels.{Sound}
 use Rattle.gap.specs.PlanLabels.{Proper, read, label_at, is_label, word_of, parent_of, leads_of, labels_of, LabelsAreSound}
 
 yes : (b : Bool) → b ≡ true → T b

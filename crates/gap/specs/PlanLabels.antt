@@ -1,7 +1,7 @@
 -- The labels of a width plan, on words of N bits. Assumes nothing.
 use Rattle.std.specs.Prelude.{ℕ, ◌^◌, ◌≤◌, Bool, true, false, cond, Some, None, Ok, Err, Option, Result, nat_lt}
 use Rattle.label.specs.declared.fault.LabelFault.{LabelFault}
-use Rattle.label.specs.Label.{Label, end, parent, bits, word, word_bits}
+use Rattle.label.specs.Label.{Label, end, parent, bits, word}
 use Rattle.label.specs.Reading.{label_of}
 use Rattle.label.specs.Relation.{leads}
 use Rattle.gap.specs.Between.{Betweens}

@@ -1,5 +1,5 @@
 -- Reading the words of a line from left to right. Assumes nothing.
-use Rattle.std.proofs.Common.{◌≡◌, ℕ, ◌⊎◌, List, [], ◌∷◌, ◌++◌, Some, None, Option, sym, refl, ap, ◌∙◌, subst, inl, inr, append_assoc}
+use Rattle.std.proofs.Common.{◌≡◌, ℕ, List, [], ◌∷◌, ◌++◌, Some, None, Option, sym, ap, ◌∙◌, subst, inl, inr, append_assoc}
 use Rattle.kushrebat.specs.Grammar.{Part, a_bound, Readable, Misread, MisreadNumbers, SpellsBound, SpellsWidth, SpellsWidths, SpellsRest, SpellsBehind, text_of, name_of}
 use Rattle.kushrebat.specs.declared.command.Command.{Command}
 use Rattle.kushrebat.specs.declared.command.Name.{Name}

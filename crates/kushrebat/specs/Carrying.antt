@@ -1,5 +1,5 @@
 -- What carrying out a command answers, by what the libraries say, and what it changes. Assumes nothing.
-use Rattle.std.specs.Prelude.{◌≡◌, ℕ, ◌+◌, ◌⊎◌, List, Some, None, Ok, Err, vec_items, Option, Result}
+use Rattle.std.specs.Prelude.{◌≡◌, ℕ, ◌⊎◌, List, Some, None, Ok, Err, vec_items, Option, Result}
 use Rattle.plan.specs.Plans.{by_either, position_place, level_place, Makes}
 use Rattle.plan.specs.declared.any.AnyPlan.{AnyPlan}
 use Rattle.plan.specs.declared.fault.PlanFault.{PlanFault}

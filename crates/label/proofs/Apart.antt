@@ -1,5 +1,5 @@
 -- The pieces of a lawful label's word are its subvalues. Assumes nothing.
-use Rattle.std.proofs.Common.{◌≡◌, ℕ, ◌+◌, ◌-◌, ◌*◌, ◌^◌, ◌<◌, ◌≤◌, true, false, List, [], ◌∷◌, ◌++◌, sym, refl, ap, ◌∙◌, subst, append_assoc, arith, pow_mono}
+use Rattle.std.proofs.Common.{◌≡◌, ℕ, ◌+◌, ◌-◌, ◌^◌, ◌<◌, ◌≤◌, true, false, List, [], ◌∷◌, ◌++◌, sym, refl, ap, ◌∙◌, subst, append_assoc, arith, pow_mono}
 use Rattle.label.specs.Label.{Label, end, next, down, bits, spelled, Fits}
 use Rattle.label.specs.Reading.{piece}
 use Rattle.label.specs.Spelling.{subvalue, spelling}

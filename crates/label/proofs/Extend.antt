@@ -1,6 +1,6 @@
 -- A label with more levels below its own. Assumes nothing.
-use Rattle.std.proofs.Common.{◌≡◌, ℕ, ◌+◌, ◌-◌, ◌*◌, ◌^◌, ◌<◌, ◌≤◌, List, [], ◌∷◌, ◌++◌, Some, None, Option, sym, refl, ap, ◌∙◌, subst, arith}
-use Rattle.label.specs.Label.{Label, end, next, down, first, deeper, levels, depth, parent, bits, spelled, Fits}
+use Rattle.std.proofs.Common.{◌≡◌, ℕ, ◌+◌, ◌-◌, ◌≤◌, List, [], ◌∷◌, ◌++◌, Some, None, Option, sym, refl, ap, ◌∙◌, subst, arith}
+use Rattle.label.specs.Label.{Label, end, next, down, levels, depth, parent, bits, spelled, Fits}
 use Rattle.label.proofs.Standing.{Under}
 
 -- a label of one level

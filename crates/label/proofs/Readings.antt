@@ -1,9 +1,9 @@
 -- What the loop of reading has gathered, and that it is the label's reading. Assumes nothing.
-use Rattle.std.proofs.Common.{◌≡◌, ℕ, zero, suc, ◌+◌, ◌-◌, ◌*◌, ◌/◌, ◌%◌, ◌^◌, ◌<◌, ◌≤◌, true, false, cond, Some, None, Ok, Err, Option, Result, sym, refl, ap, ◌∙◌, subst, mul_assoc, mul_comm, add-mul, mul-add, arith, pow_pos}
+use Rattle.std.proofs.Common.{◌≡◌, ℕ, zero, suc, ◌+◌, ◌-◌, ◌*◌, ◌/◌, ◌^◌, ◌<◌, ◌≤◌, true, false, Some, None, Ok, Err, Option, Result, sym, refl, ap, ◌∙◌, subst, mul_assoc, add-mul, mul-add, arith}
 use Rattle.std.proofs.lemmas.Bool.{cond-true, cond-false}
 use lib.Arith.{digits_div}
 use Rattle.label.specs.Label.{Label, end, next, down, may_end, bits, spelled, Fits, depth, parent, word}
-use Rattle.label.specs.Reading.{piece, onto, outcome, scan, label_of, reading_of, answer}
+use Rattle.label.specs.Reading.{piece, onto, outcome, scan, label_of, answer}
 use Rattle.label.specs.declared.fault.LabelFault.{LabelFault}
 use Rattle.label.specs.declared.fault.LabelFault.TheVariants.{Short, Zero}
 use Rattle.label.specs.declared.piece.Piece.{Piece}

@@ -1,8 +1,8 @@
 -- Labels by their subvalues, and the steps of writing one. Assumes nothing.
-use Rattle.std.proofs.Common.{◌≡◌, ℕ, ◌+◌, ◌-◌, ◌*◌, ◌^◌, ◌<◌, ◌≤◌, Bool, true, false, cond, eqb, List, [], ◌∷◌, length, get_or, take, drop, Some, None, Option, sym, refl, ap, ◌∙◌, subst, arith}
+use Rattle.std.proofs.Common.{◌≡◌, ℕ, ◌+◌, ◌-◌, ◌*◌, ◌^◌, ◌<◌, ◌≤◌, Bool, true, false, eqb, List, [], ◌∷◌, length, get_or, take, drop, Some, None, Option, sym, refl, ap, ◌∙◌, subst, arith}
 use Rattle.std.proofs.lemmas.List.{take_rest}
 use Rattle.std.proofs.lemmas.Bool.{eqb-true}
-use Rattle.label.specs.Label.{Label, end, next, down, may_end, bits, spelled, Fits}
+use Rattle.label.specs.Label.{Label, end, next, down, bits, spelled, Fits}
 use Rattle.label.specs.Spelling.{subvalue, spelling, level_after, position_after, separator_after, stands_at, Places, WritesFrom}
 use Rattle.label.specs.declared.subvalue.Subvalue.{Subvalue}
 use Rattle.label.proofs.Words.{below}

@@ -1,9 +1,9 @@
 -- The theorems on labels and their words. Assumes nothing.
-use Rattle.std.proofs.Common.{◌≡◌, ℕ, suc, ◌+◌, ◌-◌, ◌^◌, ◌<◌, ◌≤◌, true, cond, eqb, ltb, ◌⊎◌, IfOk, Some, None, Ok, Err, Result, sym, refl, ap, ◌∙◌, subst, inl, inr, arith, pow_pos}
+use Rattle.std.proofs.Common.{◌≡◌, ℕ, suc, ◌+◌, ◌-◌, ◌^◌, ◌<◌, ◌≤◌, true, eqb, ltb, ◌⊎◌, IfOk, Some, None, Ok, Err, Result, sym, refl, ap, ◌∙◌, subst, inl, inr, arith, pow_pos}
 use Rattle.std.proofs.lemmas.Bool.{cond_both, both_ways, eqb-true, eqb-false, ltb-true, ltb-false}
 use Rattle.label.specs.declared.relation.Relation.{Relation}
 use Rattle.label.specs.Label.{Label, end, next, down, bits, parent, Lawful, word}
-use Rattle.label.specs.Reading.{label_of, reading_of, answer}
+use Rattle.label.specs.Reading.{label_of, answer}
 use Rattle.label.specs.Order.{Earlier, Over}
 use Rattle.label.specs.Relation.{leads, relation_of}
 use Rattle.label.specs.Stops.{Stops, front_bits, next_position, next_width}
@@ -13,7 +13,7 @@ use Rattle.label.specs.declared.reading.WordReading.{WordReading}
 use Rattle.label.proofs.Intervals as Intervals
 use Rattle.label.proofs.Intervals.{inside, outside}
 use Rattle.label.proofs.Pieces.{pow_half}
-use Rattle.label.proofs.Leads.{Inside, whole, inside_from_leads, leads_from_inside}
+use Rattle.label.proofs.Leads.{whole, inside_from_leads, leads_from_inside}
 use Rattle.label.proofs.Levels.{over_from_under, under_from_over, earlier_from_under, earlier_from_past, earlier_one_way}
 use Rattle.label.proofs.Standing.{Under, Past, Standing, same, above, below, before, after, standing}
 use Rattle.label.proofs.Words.{scan_spelled, scan_tells}

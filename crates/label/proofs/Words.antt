@@ -1,5 +1,5 @@
 -- Words of lawful labels: they fit, are never 0, and read back. Assumes nothing.
-use Rattle.std.proofs.Common.{◌≡◌, ℕ, zero, suc, ◌+◌, ◌-◌, ◌*◌, ◌/◌, ◌%◌, ◌^◌, ◌<◌, ◌≤◌, Bool, true, false, cond, Ok, Err, Result, sym, refl, ap, ◌∙◌, subst, mul-le-mul, arith, pow_pos}
+use Rattle.std.proofs.Common.{◌≡◌, ℕ, zero, suc, ◌+◌, ◌-◌, ◌*◌, ◌^◌, ◌<◌, ◌≤◌, Bool, true, false, cond, Ok, Err, Result, refl, ap, ◌∙◌, subst, mul-le-mul, arith, pow_pos}
 use Rattle.std.proofs.lemmas.Bool.{cond-true, ltb-true}
 use Rattle.label.specs.Label.{Label, end, next, down, may_end, bits, spelled, Fits}
 use Rattle.label.specs.Reading.{piece, onto, outcome, scan}

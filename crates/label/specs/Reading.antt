@@ -1,5 +1,5 @@
 -- How a word is read. Assumes nothing.
-use Rattle.std.specs.Prelude.{ℕ, zero, suc, ◌+◌, ◌-◌, ◌*◌, ◌/◌, ◌%◌, ◌^◌, ◌<◌, ◌≤◌, Bool, true, false, cond, Some, None, Ok, Err, Option, Result, ◌==◌, nat_lt}
+use Rattle.std.specs.Prelude.{ℕ, zero, suc, ◌+◌, ◌-◌, ◌/◌, ◌%◌, ◌^◌, cond, Some, None, Ok, Err, Result, ◌==◌, nat_lt}
 use Rattle.label.specs.Label.{Label, end, next, down, may_end, bits, depth, parent, word}
 use Rattle.label.specs.declared.reading.WordReading.{WordReading}
 use Rattle.label.specs.declared.piece.Piece.{Piece}

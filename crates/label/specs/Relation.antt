@@ -1,5 +1,5 @@
 -- How two labels stand to each other, by their words. Assumes nothing.
-use Rattle.std.specs.Prelude.{ℕ, ◌-◌, ◌/◌, ◌%◌, ◌^◌, Bool, true, false, cond, ◌&&◌, ◌==◌, nat_lt}
+use Rattle.std.specs.Prelude.{ℕ, ◌-◌, ◌/◌, ◌%◌, ◌^◌, Bool, cond, ◌&&◌, ◌==◌, nat_lt}
 use Rattle.label.specs.declared.relation.Relation.{Relation}
 use Rattle.label.specs.declared.relation.Relation.TheVariants.{Same, Above, Below, Before, After}
 

@@ -1,10 +1,10 @@
 -- The rows that a label leads. Assumes nothing.
-use Rattle.std.proofs.Common.{◌≡◌, ℕ, ◌+◌, ◌-◌, ◌<◌, ◌≤◌, Bool, true, false, T, ◌⊎◌, List, length, Some, None, Ok, Option, sym, refl, ap, ◌∙◌, subst, inl, inr, ⊎_elim, arith}
+use Rattle.std.proofs.Common.{◌≡◌, ℕ, ◌+◌, ◌<◌, ◌≤◌, T, List, length, Some, None, Ok, Option, ap, subst, inl, inr, ⊎_elim, arith}
 use Rattle.std.proofs.lemmas.Bool.{cases_lt}
 use Rattle.shelf.specs.declared.row.Row.{Row}
 use Rattle.shelf.specs.declared.row.State.{State}
-use Rattle.shelf.specs.declared.row.State.TheVariants.{Opened, Filled, Struck}
-use Rattle.shelf.specs.Rows.{Rising, RowAt, label_at, row_at}
+use Rattle.shelf.specs.declared.row.State.TheVariants.{Struck}
+use Rattle.shelf.specs.Rows.{Rising, label_at, row_at}
 use Rattle.shelf.proofs.Ranks.{cases_eq_lt}
 use Rattle.label.specs.Label.{Label}
 use Rattle.label.specs.Theorems.{EndsLed}
@@ -14,7 +14,6 @@ use Rattle.gap.specs.Labels.{Labels}
 use Rattle.gap.specs.PlanLabels.{labels_of}
 use Rattle.gap.proofs.PlanLabels.{leads_parts, leads_from, lawful_parts, lawful_from, one_of}
 use Rattle.neighbours.specs.Below.{LedEnd, InUse, BelowAt, NoneBelow, Occupied}
-use Rattle.neighbours.specs.Children.{Decides}
 use Rattle.neighbours.specs.Ranks.{Past}
 use Rattle.neighbours.proofs.WordReads.{led_nothing}
 

@@ -1,5 +1,5 @@
 -- The walks over the rows for a child. Assumes nothing.
-use Rattle.std.proofs.Common.{◌≡◌, ℕ, zero, suc, ◌+◌, ◌-◌, ◌<◌, ◌≤◌, Bool, true, false, T, eqb, ◌⊎◌, List, length, Some, None, Option, sym, refl, ap, ◌∙◌, subst, inl, inr, ⊎_elim, arith, eqb→eq}
+use Rattle.std.proofs.Common.{◌≡◌, ℕ, ◌+◌, ◌<◌, ◌≤◌, Bool, true, false, T, eqb, List, length, Some, None, Option, sym, ap, ◌∙◌, subst, ⊎_elim, arith, eqb→eq}
 use lib.Dec.{eqb_refl}
 use Rattle.std.proofs.lemmas.Bool.{cases_lt}
 use Rattle.shelf.specs.declared.row.Row.{Row}
@@ -7,7 +7,7 @@ use Rattle.shelf.specs.Rows.{Rising, RowAt, label_at}
 use Rattle.shelf.proofs.Ranks.{cases_eq_lt}
 use Rattle.gap.specs.Labels.{Labels, Sound}
 use Rattle.gap.proofs.Options.{some_injective, none_ne_some}
-use Rattle.neighbours.specs.Children.{Decides, ChildAt, NoChild, LastChild, FirstChild}
+use Rattle.neighbours.specs.Children.{Decides, ChildAt, NoChild}
 
 -- a parent that was read, against another
 pub decides_some : (o : Option ℕ) (a p : ℕ) → o ≡ Some a → Decides (eqb a p) (o ≡ Some p)

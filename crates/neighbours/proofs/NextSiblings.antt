@@ -1,5 +1,5 @@
 -- The next siblings of a new place, from the walks over the rows. Assumes nothing.
-use Rattle.std.proofs.Common.{◌≡◌, ℕ, zero, suc, ◌+◌, ◌<◌, ◌≤◌, ◌⊎◌, List, [], ◌∷◌, length, Some, None, Option, sym, refl, ap, ◌∙◌, subst, inl, inr, ⊎_elim, arith}
+use Rattle.std.proofs.Common.{◌≡◌, ℕ, zero, suc, ◌+◌, ◌<◌, ◌≤◌, List, [], ◌∷◌, length, Some, None, Option, sym, refl, ap, ◌∙◌, subst, inl, inr, ⊎_elim, arith}
 use Rattle.std.proofs.lemmas.Bool.{cases_lt, cases_order}
 use Rattle.shelf.specs.declared.row.Row.{Row}
 use Rattle.shelf.specs.Rows.{Rising, rank_of, label_at, row_at}
@@ -8,8 +8,8 @@ use Rattle.gap.specs.Labels.{Labels, Sound}
 use Rattle.laws.specs.declared.place.Where.{Where}
 use Rattle.laws.specs.declared.place.Where.TheVariants.{FirstUnder, LastUnder, Before, After}
 use Rattle.laws.specs.Openings.{Lower, Upper, ChildRow, NextLower, NextUpper}
-use Rattle.laws.specs.Standing.{Has, Stands}
-use Rattle.neighbours.specs.Children.{ChildAt, NoChild, LastChild, FirstChild}
+use Rattle.laws.specs.Standing.{Has}
+use Rattle.neighbours.specs.Children.{ChildAt, LastChild, FirstChild}
 use Rattle.neighbours.specs.Next.{Neighbours}
 use Rattle.neighbours.specs.Ranks.{Past}
 

@@ -1,10 +1,10 @@
 -- What the reading of a word says of the labels of its plan. Assumes nothing.
-use Rattle.std.proofs.Common.{◌≡◌, ℕ, ◌<◌, ◌≤◌, T, Some, None, Ok, Err, Option, Result, sym, refl, ap, ◌∙◌, subst, arith, lit≤}
+use Rattle.std.proofs.Common.{◌≡◌, ℕ, ◌<◌, ◌≤◌, T, Some, None, Ok, Option, sym, refl, ap, ◌∙◌, subst, arith, lit≤}
 use Rattle.label.specs.declared.reading.WordReading.{WordReading}
 use Rattle.label.specs.declared.fault.LabelFault.{LabelFault}
 use Rattle.label.specs.Label.{Label, parent, word, word_bits}
 use Rattle.label.specs.Stops.{Stops}
-use Rattle.label.specs.Theorems.{Of, Reads, EndsLed, LedTo}
+use Rattle.label.specs.Theorems.{Of, Reads, EndsLed}
 use Rattle.label.proofs.Levels.{over_from_under}
 use Rattle.label.proofs.Standing.{Under}
 use Rattle.label.proofs.Theorems.{read_back, stop_back}

@@ -11,11 +11,12 @@ use Rattle.laws.specs.Standing.{Row}
 use Rattle.laws.specs.declared.place.Where.{Where}
 use Rattle.laws.specs.declared.place.Where.TheVariants.{FirstUnder, LastUnder, Before, After}
 use Rattle.laws.specs.Openings.{above_new, NextLower, NextUpper, LabelFor}
-use Rattle.laws.specs.Calls.{Passes, TurnsDown, parent-checks, place_checks}
+use Rattle.laws.specs.Calls.{Passes, TurnsDown, place_checks}
+use Rattle.places.specs.Checks.{parent_checks}
 use Rattle.laws.proofs.Pins.{one_label}
 use Rattle.neighbours.proofs.WordReads.{unread_unlawful}
 
-module _ (L : Labels) (S : Sound L) (rows : List Row) (a : ℕ) (w : Where) (ok : Passes (parent-checks L rows a w)) (p : ℕ)
+module _ (L : Labels) (S : Sound L) (rows : List Row) (a : ℕ) (w : Where) (ok : Passes (parent_checks L rows a w)) (p : ℕ)
     (under : above_new L w a ≡ Some p) (l u : Option ℕ) (next : NextLower L rows w a p l × NextUpper L rows w a p u) where
   label_for : (o : Option ℕ) → L.Chooses p l u o → LabelFor L rows w a o
   label_for o chosen = record {
@@ -42,7 +43,7 @@ module _ (L : Labels) (S : Sound L) (rows : List Row) (a : ℕ) (w : Where) (ok 
       )
 
 -- the parent of a new place is a label, so it can be read
-pub parent_reads : (w : ℕ → ℕ → ℕ) (N : ℕ) → (rows : List Row) (a : ℕ) (v : Where) → Passes (parent-checks (labels_of w N) rows a v)
+pub parent_reads : (w : ℕ → ℕ → ℕ) (N : ℕ) → (rows : List Row) (a : ℕ) (v : Where) → Passes (parent_checks (labels_of w N) rows a v)
     → (p : ℕ) → above_new (labels_of w N) v a ≡ Some p
     → (fault : LabelFault) → Stops w N p fault → ⊥
 parent_reads w N rows a v ok p under fault stops =

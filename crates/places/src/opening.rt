@@ -3,7 +3,8 @@ ghost use Rattle.std.specs.Prelude.{◌≡◌, ℕ, T, Some};
 ghost use Rattle.label.specs.Label.{word_bits};
 ghost use Rattle.gap.specs.PlanLabels.{labels_of};
 ghost use Rattle.laws.specs.Openings.{above_new, beside, LabelFor};
-ghost use Rattle.laws.specs.Calls.{parent-checks, place_checks};
+ghost use Rattle.laws.specs.Calls.{place_checks};
+ghost use Rattle.places.specs.Checks.{parent_checks};
 ghost use Rattle.neighbours.specs.Children.{Decides};
 ghost use Rattle.places.specs.Checked.{Checked};
 
@@ -54,7 +55,7 @@ fn filled_parent<P: WidthPlan, S: Reading>(
     label: Word,
     place: Where,
 ) -> Result<Word, SheetFault>
-    ensures { Checked (parent-checks (labels_of (P.WidthPlan.width plan.now) word_bits) (S.Reading.rows shelf.now) label place) (λ (p : ℕ). above_new (labels_of (P.WidthPlan.width plan.now) word_bits) place label ≡ Some p) result }
+    ensures { Checked (parent_checks (labels_of (P.WidthPlan.width plan.now) word_bits) (S.Reading.rows shelf.now) label place) (λ (p : ℕ). above_new (labels_of (P.WidthPlan.width plan.now) word_bits) place label ≡ Some p) result }
 {
     known_row(plan, shelf, label)?;
     if is_beside_head(plan, place, label) {

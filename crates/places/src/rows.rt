@@ -3,7 +3,7 @@ ghost use Rattle.std.specs.Prelude.{◌≡◌, ℕ, ◌<◌};
 ghost use Rattle.label.specs.Label.{word_bits};
 ghost use Rattle.gap.specs.PlanLabels.{labels_of};
 ghost use Rattle.laws.specs.Standing.{Filled, StandsAs};
-ghost use Rattle.laws.specs.Calls.{known-checks, note-checks};
+ghost use Rattle.places.specs.Checks.{known_checks, note_checks};
 ghost use Rattle.neighbours.specs.Children.{Decides};
 ghost use Rattle.places.specs.Checked.{Checked, IsRow, RowOf};
 
@@ -41,7 +41,7 @@ pub fn known_row<P: WidthPlan, S: Reading>(
     shelf: &S,
     label: Word,
 ) -> Result<(usize, Row), SheetFault>
-    ensures { Checked (known-checks (labels_of (P.WidthPlan.width plan.now) word_bits) (S.Reading.rows shelf.now) label) (λ (found : ℕ × Row). IsRow (S.Reading.rows shelf.now) label found.0 found.1) result }
+    ensures { Checked (known_checks (labels_of (P.WidthPlan.width plan.now) word_bits) (S.Reading.rows shelf.now) label) (λ (found : ℕ × Row). IsRow (S.Reading.rows shelf.now) label found.0 found.1) result }
 {
     let Some(found) = row_of(shelf, label) else {
         return Err(SheetFault::Unknown);
@@ -54,7 +54,7 @@ pub fn known_row<P: WidthPlan, S: Reading>(
 
 // The index of the opened row with a note's label. Refused where no opened row has it.
 pub fn opened_row<S: Reading>(shelf: &S, label: Word) -> Result<usize, SheetFault>
-    ensures { Checked (note-checks (S.rows shelf.now) label) (λ (i : ℕ). (row : Row) × IsRow (S.rows shelf.now) label i row) result }
+    ensures { Checked (note_checks (S.rows shelf.now) label) (λ (i : ℕ). (row : Row) × IsRow (S.rows shelf.now) label i row) result }
 {
     match row_of(shelf, label) {
         Some((index, row)) => {

@@ -2,7 +2,7 @@
 ghost use Rattle.std.specs.Prelude.{◌≡◌, ℕ};
 ghost use Rattle.label.specs.Label.{word_bits};
 ghost use Rattle.gap.specs.PlanLabels.{labels_of};
-ghost use Rattle.laws.specs.Calls.{strike-checks};
+ghost use Rattle.places.specs.Checks.{strike_checks};
 ghost use Rattle.places.specs.Checked.{Checked, IsRow};
 
 use crate::fault::SheetFault;
@@ -19,7 +19,7 @@ pub fn row_to_strike<P: WidthPlan, S: Reading>(
     shelf: &S,
     label: Word,
 ) -> Result<usize, SheetFault>
-    ensures { Checked (strike-checks (labels_of (P.WidthPlan.width plan.now) word_bits) (S.Reading.rows shelf.now) label) (λ (i : ℕ). (row : Row) × IsRow (S.Reading.rows shelf.now) label i row) result }
+    ensures { Checked (strike_checks (labels_of (P.WidthPlan.width plan.now) word_bits) (S.Reading.rows shelf.now) label) (λ (i : ℕ). (row : Row) × IsRow (S.Reading.rows shelf.now) label i row) result }
 {
     let (index, row) = known_row(plan, shelf, label)?;
     if label == head_label(plan) {

@@ -1,5 +1,5 @@
 -- What put and set make of a list of rows, and when they are refused. Assumes nothing.
-use Rattle.std.specs.Prelude.{◌≡◌, ℕ, ◌<◌, ◌≤◌, List, length, set, Ok, Err, Result, slice_set}
+use Rattle.std.specs.Prelude.{◌≡◌, ℕ, ◌<◌, ◌≤◌, List, length, Ok, Err, Result, slice_set}
 use Rattle.std.specs.List.{insert}
 use Rattle.shelf.specs.declared.row.Row.{Row}
 use Rattle.shelf.specs.declared.row.State.{State}

@@ -1,6 +1,6 @@
-use Rattle.std.proofs.Common.{◌≡◌, ℕ, ◌+◌, ◌-◌, ◌^◌, ◌<◌, ◌≤◌, true, false, List, length, get_or, take, drop, Some, None, Option, sym, refl, ap, ◌∙◌, subst, arith, pow_mono}
+use Rattle.std.proofs.Common.{ℕ, ◌+◌, ◌^◌, ◌<◌, ◌≤◌, List, Some, None, Option, sym, ◌∙◌, subst, arith, pow_mono}
 use Rattle.label.specs.Label.{word_bits}
-use Rattle.label.specs.Spelling.{subvalue, WritesFrom}
+use Rattle.label.specs.Spelling.{WritesFrom}
 use Rattle.label.specs.declared.subvalue.Subvalue.{Subvalue}
 use Rattle.label.proofs.Spelt.{parted, emptied, spelling_some, no_value, last_value, no_end, no_room, no_rest, whole_value}
 use Rattle.label.proofs.writing.+spell.Given as given

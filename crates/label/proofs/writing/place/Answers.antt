@@ -1,4 +1,4 @@
-use Rattle.std.proofs.Common.{◌≡◌, ℕ, ◌-◌, ◌*◌, ◌^◌, ◌<◌, ◌≤◌, ap, arith, pow_pos, pow_mono}
+use Rattle.std.proofs.Common.{ℕ, ◌-◌, ◌*◌, ◌^◌, ◌<◌, ◌≤◌, ap, arith, pow_pos, pow_mono}
 use Rattle.label.specs.Label.{word_bits}
 use Rattle.label.proofs.Pieces.{in_front}
 use Rattle.label.proofs.writing.place.Goals as goal

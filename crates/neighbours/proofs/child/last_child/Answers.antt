@@ -1,4 +1,4 @@
-use Rattle.std.proofs.Common.{◌≡◌, ℕ, ◌+◌, ◌-◌, ◌≤◌, ap, subst, arith}
+use Rattle.std.proofs.Common.{◌≡◌, ℕ, ◌+◌, ◌-◌, ap, subst, arith}
 use Rattle.shelf.specs.declared.row.Row.{Row}
 use Rattle.label.specs.Label.{word_bits}
 use Rattle.gap.specs.PlanLabels.{labels_of}

@@ -1,6 +1,6 @@
 use Rattle.std.proofs.Common.{sym, ap, ◌∙◌, arith}
 use Rattle.shelf.specs.declared.row.Row.{Row}
-use Rattle.neighbours.proofs.NextSiblings.{past_here, past_between}
+use Rattle.neighbours.proofs.NextSiblings.{past_between}
 use Rattle.neighbours.proofs.rank.rank_past.Goals as goal
 
 pub returns-else-row-label : goal.returns-else-row-label

@@ -1,4 +1,4 @@
-use Rattle.std.proofs.Common.{◌≡◌, ◌^◌, ◌<◌, length, ◌∙◌, arith}
+use Rattle.std.proofs.Common.{◌<◌, length, ◌∙◌, arith}
 use mir.Facts.{Fits-of_lt}
 use Rattle.kushrebat.proofs.Numbers.{step, whole, no_digit, room}
 use Rattle.kushrebat.proofs.script.word.word.Goals as goal
