@@ -1,6 +1,6 @@
 -- Worked examples of labels, on words of 64 bits. Assumes nothing.
 use Rattle.std.specs.Prelude.{◌≡◌, ℕ, ◌-◌, List, [], ◌∷◌, Some, None, Ok, Option}
-use Rattle.std.specs.List.{AllByRecursion as All}
+use Rattle.std.specs.List.{AllByRecursion}
 use Rattle.plan.specs.Widths.{served}
 use Rattle.label.specs.Label.{Label, levels, bits}
 use Rattle.label.specs.Stops.{Stops}
@@ -73,4 +73,4 @@ examples =
     ∷ []
 
 abbrev pub ExamplesHold : Type 0
-ExamplesHold = All Holds examples
+ExamplesHold = AllByRecursion Holds examples

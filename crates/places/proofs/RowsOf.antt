@@ -1,5 +1,7 @@
 -- The row that a label has, by its index and as one that stands there. Assumes nothing.
-use Rattle.std.proofs.Common.{◌≡◌, ℕ, ◌<◌, ◌≤◌, Bool, true, false, cond, List, length, Some, None, sym, refl, ap, ◌∙◌, subst, arith}
+use Rattle.std.proofs.Common.{◌≡◌, ℕ, ◌<◌, ◌≤◌, Bool, true, false, List, length, Some, None, sym, refl, ap, ◌∙◌, subst, arith, rules}
+use denote.Enum.Bare.{sameb, same_true, same_false}
+use Rattle.shelf.specs.contracts.row.State.{the_type}
 use Rattle.shelf.specs.Rows.{row_at, Rising, RowAt, index_of}
 use Rattle.shelf.proofs.Ranks.{index_some, index_none}
 use Rattle.laws.specs.Standing.{Row, State, Has, Stands, StandsAs}
@@ -45,6 +47,6 @@ module _ (rows : List Row) (x : ℕ) where
       state_is st (s, h, label, state) = ap (λ (t : Row). t.state) (sym (only_row s h label)) ∙ state
 
       -- a test of its state tells whether the label stands so
-      pub state_test : (st : State) (b : Bool) → cond b (r.state ≡ st) (r.state ≡ st → ⊥) → Decides b (StandsAs st rows x)
-      state_test st true e = (λ t. stands_as st e, λ k. tt)
-      state_test st false no_way = (λ t. absurd t, λ k. no_way (state_is st k))
+      pub state_test : (st : State) (b : Bool) → b ≡ sameb the_type r.state st → Decides b (StandsAs st rows x)
+      state_test st true e = (λ t. stands_as st (same_true the_type (search rules) r.state st (sym e)), λ k. tt)
+      state_test st false e = (λ t. absurd t, λ k. same_false the_type r.state st (sym e) (state_is st k))

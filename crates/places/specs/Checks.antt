@@ -4,7 +4,7 @@ use Rattle.shelf.specs.declared.row.Row.{Row}
 use Rattle.gap.specs.Labels.{Labels}
 use Rattle.laws.specs.Numbers.{UNKNOWN, HEAD, UNFILLED, NOT_BARE, NO_PLACE, NOT_OPEN}
 use Rattle.laws.specs.Standing.{Opened, Filled, StandsAs}
-use Rattle.laws.specs.Sheet.{Where}
+use Rattle.laws.specs.declared.place.Where.{Where}
 use Rattle.laws.specs.Openings.{beside, above_new, LabelFor}
 use Rattle.laws.specs.Calls.{Check, ◌unless◌, Known, NotBare}
 
