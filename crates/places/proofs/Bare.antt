@@ -1,8 +1,8 @@
 -- A filled or opened place below a label, by its index and as a row that stands there. Assumes nothing.
-use Rattle.std.proofs.Common.{◌≡◌, ℕ, ◌<◌, T, ◌⊎◌, List, length, sym, refl, ap, ◌∙◌, subst, inl, inr}
+use Rattle.std.proofs.Common.{ℕ, T, ◌⊎◌, List, sym, refl, ap, ◌∙◌, subst, inl, inr}
 use Rattle.shelf.specs.Rows.{row_at}
 use Rattle.gap.specs.Labels.{Labels}
-use Rattle.laws.specs.Standing.{Row, State, Opened, Filled, StandsAs, Has}
+use Rattle.laws.specs.Standing.{Row, State, Opened, Filled, StandsAs}
 use Rattle.laws.specs.Calls.{NotBare}
 use Rattle.laws.proofs.Rows.{has_at, at_has}
 use Rattle.neighbours.specs.Below.{InUse, Occupied}

@@ -1,8 +1,8 @@
 -- The row that a label has, by its index and as one that stands there. Assumes nothing.
-use Rattle.std.proofs.Common.{◌≡◌, ℕ, ◌<◌, ◌≤◌, Bool, true, false, List, length, Some, None, sym, refl, ap, ◌∙◌, subst, arith, rules}
+use Rattle.std.proofs.Common.{◌≡◌, ℕ, ◌≤◌, Bool, true, false, List, length, Some, None, sym, ap, ◌∙◌, subst, arith, rules}
 use denote.Enum.Bare.{sameb, same_true, same_false}
 use Rattle.shelf.specs.contracts.row.State.{the_type}
-use Rattle.shelf.specs.Rows.{row_at, Rising, RowAt, index_of}
+use Rattle.shelf.specs.Rows.{Rising, RowAt, index_of}
 use Rattle.shelf.proofs.Ranks.{index_some, index_none}
 use Rattle.laws.specs.Standing.{Row, State, Has, Stands, StandsAs}
 use Rattle.laws.proofs.Rows.{has_at, at_has, one_row}

@@ -1,11 +1,11 @@
 -- The checks of calls on a sheet that its rows decide, by themselves: `checks` of the laws has the same ones behind that of being laid. Assumes nothing.
-use Rattle.std.specs.Prelude.{◌≡◌, ℕ, List, [], ◌∷◌, ◌++◌, Some, T}
+use Rattle.std.specs.Prelude.{◌≡◌, ℕ, List, [], ◌∷◌, Some, T}
 use Rattle.shelf.specs.declared.row.Row.{Row}
 use Rattle.gap.specs.Labels.{Labels}
-use Rattle.laws.specs.Numbers.{UNKNOWN, HEAD, UNFILLED, NOT_BARE, NO_PLACE, NOT_OPEN}
+use Rattle.laws.specs.Numbers.{UNKNOWN, HEAD, UNFILLED, NOT_BARE, NOT_OPEN}
 use Rattle.laws.specs.Standing.{Opened, Filled, StandsAs}
 use Rattle.laws.specs.declared.place.Where.{Where}
-use Rattle.laws.specs.Openings.{beside, above_new, LabelFor}
+use Rattle.laws.specs.Openings.{beside, above_new}
 use Rattle.laws.specs.Calls.{Check, ◌unless◌, Known, NotBare}
 
 -- what the rows must have of the label that a note tells

@@ -1,4 +1,4 @@
-use Rattle.std.proofs.Common.{◌≡◌, ℕ, sym, refl, ◌∙◌, inl, inr}
+use Rattle.std.proofs.Common.{◌≡◌, sym, refl, ◌∙◌, inl, inr}
 use Rattle.label.specs.Label.{word_bits}
 use Rattle.shelf.specs.declared.row.State.TheVariants.{Filled}
 use Rattle.gap.specs.PlanLabels.{labels_of}
