@@ -1,5 +1,5 @@
 -- The words of menu cards.
-use Rattle.std.specs.Prelude.{◌≡◌, ℕ, ◌+◌, ◌/◌, ◌%◌, ◌^◌, ◌<◌, ◌≤◌, Bool, true, false, leb, Some, None, Option, nat_le, refl}
+use Rattle.std.specs.Prelude.{◌≡◌, ◌≢◌, ℕ, ◌+◌, ◌/◌, ◌%◌, ◌^◌, ◌<◌, ◌≤◌, Bool, true, false, leb, Some, None, Option, nat_le, refl}
 use Rattle.std.proofs.Common.{sym, ap, ◌∙◌, arith}
 use Rattle.std.proofs.Math.Bridge.{le_prop}
 use Rattle.card.specs.Ranges.{some_bounded, value_of_bounded}
@@ -27,6 +27,13 @@ some_placed c = by_test (nat_le (c.start + c.length.value) 65535) refl
 -- a card's numbers make that card
 pub some_menu : (c : MenuCard) (length action : ℕ) → c.length.value ≡ length → c.action.value ≡ action → menu_of c.start length action ≡ Some c
 some_menu c length action el ea = rw (← el, ← ea, some_bounded 1 24 c.length, some_bounded 0 999 c.action) (some_placed c)
+
+-- a card's word is not 0, since its length is at least 1, and it fits 64 bits
+pub nonzero : (c : MenuCard) → code c ≢ 0
+nonzero c e = omega (arith, c.length.ok.0)
+
+pub fits : (c : MenuCard) → code c < 2 ^ 64
+fits c = omega (arith, c.ok, c.length.ok.1, c.action.ok.1)
 
 -- the parts of a word that was packed
 packed_parts : (s l a : ℕ) → l < 2 ^ 16 → a < 2 ^ 16

@@ -13,7 +13,7 @@ use Rattle.shelf.proofs.Ranks.{cases_eq_lt, rank_le}
 use Rattle.chain.specs.declared.link.Link.{Link}
 use Rattle.chain.specs.Links.{link_of, blank_link, link_at, slot_at, walked}
 use Rattle.chain.specs.Chains.{SlotBefore}
-use Rattle.chain.proofs.Walks.{length_walked, slot_suc, getD_walked, slot_once}
+use Rattle.chain.proofs.Walks.{length_walked, slot_suc, get_or_walked, slot_once}
 
 -- all slots of a walk of n steps are below n
 abbrev pub Inside : List Link → (h n : ℕ) → Type 0
@@ -35,13 +35,13 @@ module _ (ls : List Link) (h : ℕ) (ls' : List Link) (h' n k : ℕ) (r : Row) (
 
   placed : (i : ℕ) (d : Row) → i < n + 1 → At (walked ls h n) k r i d → get_or (walked ls' h' (n + 1)) i d ≡ get_or (insert (walked ls h n) k r) i d
   placed i d p (low q e) =
-      getD_walked ls' h' (n + 1) i d p ∙ row_of_slot _ _ (hook.before i q) (hook.inside i (omega (arith, hook.within)))
-      ∙ sym (e ∙ getD_walked ls h n i d (omega (arith, hook.within)))
+      get_or_walked ls' h' (n + 1) i d p ∙ row_of_slot _ _ (hook.before i q) (hook.inside i (omega (arith, hook.within)))
+      ∙ sym (e ∙ get_or_walked ls h n i d (omega (arith, hook.within)))
   placed i d p (here q e) =
-      getD_walked ls' h' (n + 1) i d p ∙ ap (λ j. (link_at ls' (slot_at ls' h' j)).row) q ∙ ap (λ s. (link_at ls' s).row) hook.new ∙ hook.new_row ∙ sym e
+      get_or_walked ls' h' (n + 1) i d p ∙ ap (λ j. (link_at ls' (slot_at ls' h' j)).row) q ∙ ap (λ s. (link_at ls' s).row) hook.new ∙ hook.new_row ∙ sym e
   placed i d p (high j q s e) =
-      getD_walked ls' h' (n + 1) i d p ∙ ap (λ m. (link_at ls' (slot_at ls' h' m)).row) (s ∙ add-one j)
-      ∙ row_of_slot _ _ (hook.behind j q (omega arith)) (hook.inside j (omega arith)) ∙ sym (e ∙ getD_walked ls h n j d (omega arith))
+      get_or_walked ls' h' (n + 1) i d p ∙ ap (λ m. (link_at ls' (slot_at ls' h' m)).row) (s ∙ add-one j)
+      ∙ row_of_slot _ _ (hook.behind j q (omega arith)) (hook.inside j (omega arith)) ∙ sym (e ∙ get_or_walked ls h n j d (omega arith))
 
   pub hooked_rows : walked ls' h' (n + 1) ≡ insert (walked ls h n) k r
   hooked_rows =
@@ -92,10 +92,10 @@ module _ (ls : List Link) (h n : ℕ) (x : Link) (inside : Inside ls h n) where
       let old = length_walked ls h n in
       let new = length_walked (set ls n x) h n in
       same_lists _ _ (omega arith) (λ j d p.
-      getD_walked (set ls n x) h n j d (omega arith)
+      get_or_walked (set ls n x) h n j d (omega arith)
       ∙ ap (λ s. (link_at (set ls n x) s).row) (unvisited ls h n n x away j (omega arith))
       ∙ ap (λ l. l.row) (link_set_other ls n (slot_at ls h j) x (away j (omega arith)))
-      ∙ sym (getD_walked ls h n j d (omega arith)))
+      ∙ sym (get_or_walked ls h n j d (omega arith)))
 
   pub inside_free : Inside (set ls n x) h n
   inside_free j p = let e = unvisited ls h n n x away j (omega arith) in let lt = inside j p in omega arith
@@ -118,9 +118,9 @@ hooked_first ls h n r room inside = record {
 -- the links after a row is hooked in, in slot n, behind the one in slot p
 abbrev pub hooked_links : List Link → (n p : ℕ) → Row → List Link
 hooked_links ls n p r =
-    let hung-in : List Link = set ls n (link_of r (link_at ls p).next) in set hung-in p (link_of (link_at hung-in p).row n)
+    let hung_in : List Link = set ls n (link_of r (link_at ls p).next) in set hung_in p (link_of (link_at hung_in p).row n)
 
-module _ (ls : List Link) (h n k : ℕ) (r : Row) (room : n < length ls) (in-chain : k < n) (up : Rising (walked ls h n)) (inside : Inside ls h n) where
+module _ (ls : List Link) (h n k : ℕ) (r : Row) (room : n < length ls) (in_chain : k < n) (up : Rising (walked ls h n)) (inside : Inside ls h n) where
   abbrev p : ℕ
   p = slot_at ls h k
 
@@ -134,7 +134,7 @@ module _ (ls : List Link) (h n k : ℕ) (r : Row) (room : n < length ls) (in-cha
   ls' = hooked_links ls n p r
 
   p_inside : p < n
-  p_inside = inside k in-chain
+  p_inside = inside k in_chain
 
   at_new : link_at ls' n ≡ hung
   at_new = link_set_other (set ls n hung) p n bent (omega (arith, p_inside)) ∙ link_set_same ls n hung room
@@ -153,12 +153,12 @@ module _ (ls : List Link) (h n k : ℕ) (r : Row) (room : n < length ls) (in-cha
   -- one step on from a visited slot that is not p
   step : (j : ℕ) → j < n → j ≢ k → (link_at ls' (slot_at ls h j)).next ≡ slot_at ls h (suc j)
   step j lt ne =
-      ap (λ l. l.next) (at_other (slot_at ls h j) (inside j lt) (λ e. ne (slot_once ls h n j k up lt in-chain e))) ∙ sym (slot_suc ls h j)
+      ap (λ l. l.next) (at_other (slot_at ls h j) (inside j lt) (λ e. ne (slot_once ls h n j k up lt in_chain e))) ∙ sym (slot_suc ls h j)
 
   before : (j : ℕ) → j < suc k → slot_at ls' h j ≡ slot_at ls h j
   before zero lt = refl
   before (suc j) lt =
-      slot_suc ls' h j ∙ ap (λ s. (link_at ls' s).next) (before j (omega arith)) ∙ step j (omega (arith, in-chain)) (omega arith)
+      slot_suc ls' h j ∙ ap (λ s. (link_at ls' s).next) (before j (omega arith)) ∙ step j (omega (arith, in_chain)) (omega arith)
 
   new : slot_at ls' h (suc k) ≡ n
   new = slot_suc ls' h k ∙ ap (λ s. (link_at ls' s).next) (before k (omega arith)) ∙ ap (λ l. l.next) at_bent
@@ -175,7 +175,7 @@ module _ (ls : List Link) (h n k : ℕ) (r : Row) (room : n < length ls) (in-cha
 
   hooked_behind : Hooked ls h ls' h n (suc k) r
   hooked_behind = record {
-    within = in-chain;
+    within = in_chain;
     inside = inside;
     same_row = same_row;
     new_row = ap (λ l. l.row) at_new;

@@ -20,16 +20,16 @@ pub slot_more : (ls : List Link) (h j s : ℕ) → s ≡ slot_at ls h j → (lin
 slot_more ls h j s e = ap (λ i. (link_at ls i).next) e ∙ sym (slot_suc ls h j) ∙ ap (slot_at ls h) (sym (add-one j))
 
 -- the row at an index is that of its slot
-pub getD_walked : (ls : List Link) (h n j : ℕ) (d : Row) → j < n → get_or (walked ls h n) j d ≡ (link_at ls (slot_at ls h j)).row
-getD_walked ls h zero j d p = absurd (omega arith)
-getD_walked ls h (suc n) zero d p = refl
-getD_walked ls h (suc n) (suc j) d p = getD_walked ls (link_at ls h).next n j d (omega arith)
+pub get_or_walked : (ls : List Link) (h n j : ℕ) (d : Row) → j < n → get_or (walked ls h n) j d ≡ (link_at ls (slot_at ls h j)).row
+get_or_walked ls h zero j d p = absurd (omega arith)
+get_or_walked ls h (suc n) zero d p = refl
+get_or_walked ls h (suc n) (suc j) d p = get_or_walked ls (link_at ls h).next n j d (omega arith)
 
 pub row_walked : (ls : List Link) (h n j s : ℕ) → s ≡ slot_at ls h j → j < n → row_at (walked ls h n) j ≡ (link_at ls s).row
-row_walked ls h n j s e p = getD_walked ls h n j blank p ∙ ap (λ i. (link_at ls i).row) (sym e)
+row_walked ls h n j s e p = get_or_walked ls h n j blank p ∙ ap (λ i. (link_at ls i).row) (sym e)
 
 pub label_walked : (ls : List Link) (h n j : ℕ) → j < n → label_at (walked ls h n) j ≡ (link_at ls (slot_at ls h j)).row.label
-label_walked ls h n j p = ap (λ r. r.label) (getD_walked ls h n j blank p)
+label_walked ls h n j p = ap (λ r. r.label) (get_or_walked ls h n j blank p)
 
 -- no slot is visited twice, since labels rise
 pub slot_once : (ls : List Link) (h n i j : ℕ) → Rising (walked ls h n) → i < n → j < n → slot_at ls h i ≡ slot_at ls h j → i ≡ j

@@ -96,8 +96,8 @@ none_left (c ∷ cs) h = absurd (omega arith)
 pub no_word : (bs begun rest : List ℕ) (n m : ℕ) → Run space bs n → begun ≡ drop n bs → First space begun m → m ≡ 0 → rest ≡ drop m begun → (words_of bs ≡ []) × (words_of rest ≡ [])
 no_word bs begun rest n m run e first z f =
     let nothing : begun ≡ [] = none_left begun (none (cases_lt 0 (length begun))) in
-    let behind-it : rest ≡ [] = f ∙ ap (λ k. drop k begun) z ∙ nothing in
-    (sym (words_drop bs n run) ∙ ap words_of (sym e ∙ nothing), ap words_of behind-it)
+    let behind_it : rest ≡ [] = f ∙ ap (λ k. drop k begun) z ∙ nothing in
+    (sym (words_drop bs n run) ∙ ap words_of (sym e ∙ nothing), ap words_of behind_it)
   where
     none : (0 < length begun) ⊎ (length begun ≤ 0) → length begun ≡ 0
     none (inl l) =

@@ -45,7 +45,7 @@ SpellsWidths (d ∷ ds) (w ∷ ws) = SpellsWidth d w × SpellsWidths ds ws
 
 -- a word is taken away, and it spells x
 abbrev pub Takes : {X : Type 0} → (List ℕ → X → Type 0) → List (List ℕ) → X → List (List ℕ) → Type 0
-Takes Spells-it ws x rest = (ds : List ℕ) × (ws ≡ ds ∷ rest) × Spells-it ds x
+Takes SpellsIt ws x rest = (ds : List ℕ) × (ws ≡ ds ∷ rest) × SpellsIt ds x
 
 -- ## What a line spells
 

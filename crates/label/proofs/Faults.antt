@@ -179,24 +179,24 @@ module _ (w : ℕ → ℕ → ℕ) where
     wrong_piece : (f n x l i : ℕ) (e : LabelFault) → Wrong w (N - n) n (w l i) i x e
         → outcome (N - n) i (λ y. scan w N f (n - w l i - 1) y l (i + 1)) (λ y. scan w N f (n - w l i - 1) y (l + 1) 0) (piece (w l i) n x) ≡ Err e
     wrong_piece f n x l i (Short b) (is, few) = rw (lt-ltb n (w l i) few) (ap (λ (j : ℕ). Err (Short j)) (sym is))
-    wrong_piece f n x l i (Zero b) (is, (s, end-at, z)) =
-        ap (outcome (N - n) i _ _) (ap (piece (w l i) n) end-at.spells)
-        ∙ ⊎_elim none some (cases_lt end-at.behind 1)
+    wrong_piece f n x l i (Zero b) (is, (s, end_at, z)) =
+        ap (outcome (N - n) i _ _) (ap (piece (w l i) n) end_at.spells)
+        ∙ ⊎_elim none some (cases_lt end_at.behind 1)
         ∙ ap (λ (j : ℕ). Err (Zero j)) (sym is)
       where
         after : Piece → Result Label LabelFault
         after = outcome (N - n) i (λ y. scan w N f (n - w l i - 1) y l (i + 1)) (λ y. scan w N f (n - w l i - 1) y (l + 1) 0)
 
-        none : end-at.behind < 1 → after (piece (w l i) n (s * 2 ^ (n - w l i) + end-at.behind)) ≡ Err (Zero (N - n))
+        none : end_at.behind < 1 → after (piece (w l i) n (s * 2 ^ (n - w l i) + end_at.behind)) ≡ Err (Zero (N - n))
         none h =
-            let e : s * 2 ^ (n - w l i) + end-at.behind ≡ s * 2 ^ (n - w l i) = omega arith in
-            ap after (ap (piece (w l i) n) e ∙ piece_end (w l i) n s end-at.enough) ∙ cond-false (may_end i s) _ _ z
+            let e : s * 2 ^ (n - w l i) + end_at.behind ≡ s * 2 ^ (n - w l i) = omega arith in
+            ap after (ap (piece (w l i) n) e ∙ piece_end (w l i) n s end_at.enough) ∙ cond-false (may_end i s) _ _ z
 
-        some : 1 ≤ end-at.behind → after (piece (w l i) n (s * 2 ^ (n - w l i) + end-at.behind)) ≡ Err (Zero (N - n))
+        some : 1 ≤ end_at.behind → after (piece (w l i) n (s * 2 ^ (n - w l i) + end_at.behind)) ≡ Err (Zero (N - n))
         some h =
             let k : ℕ = w l i in
-            let more : k < n = room k n end-at.behind end-at.enough h (omega (arith, end-at.low)) in
-            ap after (piece_down k n s end-at.behind more h (omega (arith, end-at.low, pow_half k n more))) ∙ cond-false (may_end i s) _ _ z
+            let more : k < n = room k n end_at.behind end_at.enough h (omega (arith, end_at.low)) in
+            ap after (piece_down k n s end_at.behind more h (omega (arith, end_at.low, pow_half k n more))) ∙ cond-false (may_end i s) _ _ z
 
     -- where the law says that reading stops, it does
     pub stops_scan : (f : Front) (t n x l i rest : ℕ) (e : LabelFault) → n ≤ N → n < t → Begins w n l i x f rest

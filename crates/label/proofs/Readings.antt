@@ -146,7 +146,7 @@ module _ (w : ℕ → ℕ → ℕ) (N x : ℕ) where
     pub gather_down : (s z m b : ℕ) → true ≡ may_end i s → k < n → m ≡ n - k - 1 → b ≡ cut x (n - k) → GoesDown s z ≡ piece k n y → Gathered m z (l + 1) 0 (Some b)
     gather_down s z m b ending h e parent_is is =
         let (f, more, done) = turn (GoesDown s z) is in
-        let above-is : cut x (n - w l i) ≡ b = ap (λ (j : ℕ). cut x (n - j)) (sym width) ∙ sym parent_is in
-        subst (λ (j : ℕ). Gathered m z (l + 1) 0 (Some j)) above-is
+        let above_is : cut x (n - w l i) ≡ b = ap (λ (j : ℕ). cut x (n - j)) (sym width) ∙ sym parent_is in
+        subst (λ (j : ℕ). Gathered m z (l + 1) 0 (Some j)) above_is
         (subst (λ (j : ℕ). Gathered j z (l + 1) 0 (Some (cut x (n - w l i)))) (omega (arith, width))
         (f, omega (arith, width), done ∙ ap (finished n l i p) (cond-true (may_end i s) _ _ (sym ending)) ∙ turn_down n l i s p (scan w N f (n - w l i - 1) z (l + 1) 0)))

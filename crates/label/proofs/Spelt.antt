@@ -164,13 +164,13 @@ module _ (w : ℕ → ℕ → ℕ) where
         let (d, sp, fit, few, is) =
         subst (λ (j : ℕ). WritesFrom w m (level_after e l) j further (Some y)) at (subst (λ (j : ℕ). WritesFrom w m j i' further (Some y)) deep written) in
         let c : Label = onward e s d in
-        let m-is : n - w l i - 1 ≡ m = omega (arith, width) in
+        let m_is : n - w l i - 1 ≡ m = omega (arith, width) in
         let fits : Fits w l i c = onward_fits l i e s d (subst (λ (j : ℕ). s < 2 ^ j) width small) stands fit in
         let within : bits w l i c ≤ n = omega (arith, onward_bits l i e s d, width) in
         let front : s * 2 ^ (n - w l i) ≡ x = ap (λ (j : ℕ). s * 2 ^ (n - j)) (sym width) ∙ sym value in
         let total : spelled w n l i c ≡ x + z + y =
         onward_spelled n l i e s d
-        ∙ ap (λ (j : ℕ). s * 2 ^ (n - w l i) + separator_after e j + spelled w j (level_after e l) (position_after e i) d) m-is
+        ∙ ap (λ (j : ℕ). s * 2 ^ (n - w l i) + separator_after e j + spelled w j (level_after e l) (position_after e i) d) m_is
         ∙ omega (arith, front, is, separated) in (
           (c, onward_spelling e s d ∙ ap (λ (r : List Subvalue). first ∷ r) sp, fits, within, total),
           subst (λ (v : ℕ). v < 2 ^ n) total (below w n l i c fits within),

@@ -142,14 +142,14 @@ module _ (w : ℕ → ℕ → ℕ) (N : ℕ) where
   stands c d p q =
       let P : Relation → Type 0 = λ r. Stands r c d in
       cond_both (eqb (word w N c) (word w N d)) _ _ P (λ t. same_label c d p q (eqb-true _ _ t)) (λ differ.
-      cond_both (leads N (bits w 1 0 c) (bits w 1 0 d) (word w N c) (word w N d)) _ _ P (λ t. (leads_by_levels c d p q).0 t) (λ no-c.
-      cond_both (leads N (bits w 1 0 d) (bits w 1 0 c) (word w N d) (word w N c)) _ _ P (λ t. (leads_by_levels d c q p).0 t) (λ no-d.
+      cond_both (leads N (bits w 1 0 c) (bits w 1 0 d) (word w N c) (word w N d)) _ _ P (λ t. (leads_by_levels c d p q).0 t) (λ no_c.
+      cond_both (leads N (bits w 1 0 d) (bits w 1 0 c) (word w N d) (word w N c)) _ _ P (λ t. (leads_by_levels d c q p).0 t) (λ no_d.
       cond_both (ltb (word w N c) (word w N d)) _ _ P
-      (λ t. ((words_in_order c d p q).0 (ltb-true _ _ t), λ o. both_ways _ no-c ((leads_by_levels c d p q).1 o)))
+      (λ t. ((words_in_order c d p q).0 (ltb-true _ _ t), λ o. both_ways _ no_c ((leads_by_levels c d p q).1 o)))
       (λ t.
       let ne = eqb-false (word w N c) (word w N d) differ in
       let ge = ltb-false (word w N c) (word w N d) t in
-      ((words_in_order d c q p).0 (grind arith), λ o. both_ways _ no-d ((leads_by_levels d c q p).1 o))))))
+      ((words_in_order d c q p).0 (grind arith), λ o. both_ways _ no_d ((leads_by_levels d c q p).1 o))))))
 
   -- the relation of two words that were read
   pub related : (a b : ℕ) (c d : Label) → Of w N c a → Of w N d b → Relates w N a b (Ok (relation_of N (bits w 1 0 c) (bits w 1 0 d) a b))

@@ -157,7 +157,7 @@ fired_next {rows} {mark} {f = h ∷ f} {G} {G'} e r o takes more given k =
 
     obeyed' : (x : ℕ) → Obeyed (e ∷ h ∷ f) x → (i : ℕ) × G' i x
     obeyed' x (g, before, inl (p, q), s) = (given.0, subst (G' given.0) (this g x p s) (more given.0 r.label given.1))
-    obeyed' x (g, before, inr was, s) = let (i, was-given) = k.obeyed x (g, before, was, s) in (i, more i x was-given)
+    obeyed' x (g, before, inr was, s) = let (i, was_given) = k.obeyed x (g, before, was, s) in (i, more i x was_given)
 
     upto' : (x : ℕ) → Obeyed (e ∷ h ∷ f) x → x ≤ r.label
     upto' x (g, before, inl (p, q), s) = omega (arith, this g x p s)

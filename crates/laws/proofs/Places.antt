@@ -106,8 +106,8 @@ module _ (L : Labels) (S : Sound L) where
       absurd (never_leads P.label Q.label t (rw (← q) (omega (arith, above_low below P i))))
   leads_above (fits_place R child above law below later) P Q (inr (inl i)) (inr (inl j)) t = inr (inl (leads_above below P Q i j t))
   leads_above (fits_place R child above law below later) P Q (inr (inl i)) (inr (inr j)) t =
-      let led-too : T (L.leads R.label Q.label) = S.leads_trans R.label P.label Q.label (led below P i) t in
-      absurd (omega (arith, apart R.label Q.label child (omega arith) led-too later Q j))
+      let led_too : T (L.leads R.label Q.label) = S.leads_trans R.label P.label Q.label (led below P i) t in
+      absurd (omega (arith, apart R.label Q.label child (omega arith) led_too later Q j))
   leads_above (fits_place R child above law below later) P Q (inr (inr i)) (inl q) t =
       absurd (never_leads P.label Q.label t (rw (← q) (omega (arith, above_low later P i))))
   leads_above (fits_place R child above law below later) P Q (inr (inr i)) (inr (inl j)) t =

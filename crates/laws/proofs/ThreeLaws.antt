@@ -156,9 +156,9 @@ module _ (L : Labels) (S : Sound L) where
         by r a (inl o) = inl (r.label, o, named_P r.label a)
         by r a (inr (e, before, y, was, fill, o, l)) =
             let (j, k) = g.fired.obeyed y (obeyed_before e before (firing h) y was o) in
-            let (Q, named-Q, b) = names j y k in
-            let first : ReadBefore P Q (drawing h) = smaller_first L S fits P Q i named-Q.0 (omega arith) in
-            inr (e, before, r.label, Q, was, fill, named_P r.label a, (y, o, named-Q), first)
+            let (Q, named_Q, b) = names j y k in
+            let first : ReadBefore P Q (drawing h) = smaller_first L S fits P Q i named_Q.0 (omega arith) in
+            inr (e, before, r.label, Q, was, fill, named_P r.label a, (y, o, named_Q), first)
 
   given_later : (later now : History) (i x : ℕ) → GivenOut now i x → GivenOut (later ++ now) i x
   given_later [] now i x k = k
@@ -171,12 +171,12 @@ module _ (L : Labels) (S : Sound L) where
       → (P : Place) × (Q : Place) × Names x P (drawing (later ++ now)) × Names y Q (drawing (later ++ now)) × ReadBefore P Q (drawing (later ++ now))
   in_order m₁ m later now before e x y g₁ g was o b =
       let (P, named_P, p) = named_now x (obeyed_before e before (firing now) x was b) in
-      let (Q, named-Q, q) = named_now y (e, before, was, o) in (
+      let (Q, named_Q, q) = named_now y (e, before, was, o) in (
         P,
         Q,
         named_P,
-        named-Q,
-        smaller_first L S g.together.fits P Q named_P.0 named-Q.0
+        named_Q,
+        smaller_first L S g.together.fits P Q named_P.0 named_Q.0
             (omega (arith, p, q, g₁.fired.order e before x y was o b)),
       )
     where

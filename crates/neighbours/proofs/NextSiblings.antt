@@ -48,7 +48,7 @@ module _ (L : Labels) (rows : List Row) (up : Rising rows) (a p : ℕ) where
     λ c (child, low).
         let (j, h, f) = child_index c child in
         ⊎_elim (λ same. omega (arith, ap (label_at rows) same, e, f))
-        (⊎_elim (λ i-j. absurd (none j (omega arith) (within j h (subst (Lower w a) (sym f) low)) h)) (λ j-i. omega (arith, up j i j-i k.0, e, f)))
+        (⊎_elim (λ i_j. absurd (none j (omega arith) (within j h (subst (Lower w a) (sym f) low)) h)) (λ j_i. omega (arith, up j i j_i k.0, e, f)))
         (cases_order i j),
   )
 
@@ -65,7 +65,7 @@ module _ (L : Labels) (rows : List Row) (up : Rising rows) (a p : ℕ) where
     λ c (child, high).
         let (j, h, f) = child_index c child in
         ⊎_elim (λ same. omega (arith, ap (label_at rows) same, e, f))
-        (⊎_elim (λ i-j. omega (arith, up i j i-j h.0, e, f)) (λ j-i. absurd (none j (within j h (subst (Upper w a) (sym f) high)) j-i h)))
+        (⊎_elim (λ i_j. omega (arith, up i j i_j h.0, e, f)) (λ j_i. absurd (none j (within j h (subst (Upper w a) (sym f) high)) j_i h)))
         (cases_order i j),
   )
 

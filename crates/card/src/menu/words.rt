@@ -5,7 +5,6 @@ ghost use Rattle.card.specs.Reading.{Reads};
 ghost use Rattle.card.specs.declared.fault.CardFault.TheVariants.{NoCard};
 ghost use Rattle.std.specs.Option.{ok_or};
 ghost use Rattle.card.specs.MenuWords;
-ghost use Rattle.std.proofs.Common.{rules, arith};
 
 use super::MenuCard;
 use crate::fault::CardFault;
@@ -29,9 +28,9 @@ impl Card for MenuCard {
 
     ghost decode = { decode };
 
-    ghost nonzero = { first_of (Prim.search rules, Prim.grind (arith, Self.row.coded.inj)) };
+    ghost nonzero = { λ c. MenuWords.nonzero c };
 
-    ghost fits = { first_of (Prim.search rules, Prim.grind (arith, Self.row.coded.inj)) };
+    ghost fits = { λ c. MenuWords.fits c };
 
     ghost round = { λ c. MenuWords.round c };
 

@@ -12,9 +12,9 @@ invariant_of-self c =
     let ls = chain.links.now in
     let at = c.slot-at.result in
     let h : c.args.index < chain.len = omega (arith, c.requires, chain.long) in
-    let in-ls : at < length ls = omega (arith, c.slot-at.ensures.inside, chain.fits) in
-    let inside = reset_inside ls chain.head chain.len c.args.index at c.restated.result h c.slot-at.ensures.at in-ls chain.rising chain.inside in
-    let up = reset_rising ls chain.head chain.len c.args.index at c.restated.result h c.slot-at.ensures.at in-ls chain.rising
+    let in_ls : at < length ls = omega (arith, c.slot-at.ensures.inside, chain.fits) in
+    let inside = reset_inside ls chain.head chain.len c.args.index at c.restated.result h c.slot-at.ensures.at in_ls chain.rising chain.inside in
+    let up = reset_rising ls chain.head chain.len c.args.index at c.restated.result h c.slot-at.ensures.at in_ls chain.rising
     (ap (λ r. r.label) c.restated.ensures) in
     record { few = chain.few; fits = simp length-set chain.fits; inside = inside; long = length_walked _ chain.head chain.len; rising = up }
 
@@ -25,11 +25,11 @@ returns c =
     let at = c.slot-at.result in
     let i = c.args.index in
     let h : i < chain.len = omega (arith, c.requires, chain.long) in
-    let in-ls : at < length ls = omega (arith, c.slot-at.ensures.inside, chain.fits) in
+    let in_ls : at < length ls = omega (arith, c.slot-at.ensures.inside, chain.fits) in
     record {
-      rows = reset_rows ls chain.head chain.len i at c.restated.result h c.slot-at.ensures.at in-ls chain.rising
+      rows = reset_rows ls chain.head chain.len i at c.restated.result h c.slot-at.ensures.at in_ls chain.rising
           ∙ ap (set (chain_rows chain) i) (c.restated.ensures ∙ ap (λ r. restated r c.args.state c.args.card) (sym c.slot-at.ensures.row));
       capacity = ap (λ n. min n most_rows) (length-set ls at _);
-      stays = λ s lt. reset_stays ls chain.head chain.len i at c.restated.result h c.slot-at.ensures.at in-ls chain.rising
+      stays = λ s lt. reset_stays ls chain.head chain.len i at c.restated.result h c.slot-at.ensures.at in_ls chain.rising
           (ap (λ r. r.label) c.restated.ensures) s;
     }
