@@ -5,6 +5,7 @@ ghost use Rattle.card.specs.Reading.{Reads};
 ghost use Rattle.card.specs.declared.fault.CardFault.TheVariants.{NoCard};
 ghost use Rattle.std.specs.Option.{ok_or};
 ghost use Rattle.card.specs.MenuWords;
+ghost use Rattle.std.proofs.Common.{rules};
 
 use super::MenuCard;
 use crate::fault::CardFault;
@@ -28,13 +29,13 @@ impl Card for MenuCard {
 
     ghost decode = { decode };
 
-    ghost nonzero = { λ c. MenuWords.nonzero c };
+    ghost nonzero = { Prim.search rules };
 
-    ghost fits = { λ c. MenuWords.fits c };
+    ghost fits = { Prim.search rules };
 
-    ghost round = { λ c. MenuWords.round c };
+    ghost round = { MenuWords.round };
 
-    ghost own = { λ w c e. MenuWords.own w c e };
+    ghost own = { MenuWords.own };
 
     fn word(self) -> u64 {
         u64::from(self.start) * 0x1_0000_0000
@@ -42,6 +43,7 @@ impl Card for MenuCard {
             + u64::from(self.action.get())
     }
 
+    #[tactic(auto, using(crate::specs::MenuWords::reads_lawful))]
     fn from_word(word: u64) -> Result<MenuCard, CardFault>
         ensures made { result ≡ ok_or (decode word) NoCard }
         ensures lawful { Reads code (LawfulWord word) word result }
