@@ -1,7 +1,7 @@
 // Firing cards: the steps of a firing.
 ghost use Rattle.std.specs.Prelude.{◌≡◌, Some};
 ghost use Rattle.card.specs.Bounds.{Within};
-ghost use Rattle.card.specs.Firing.{LawfulWord, card_of, code, cool_of, decode, hold_of, packed, ramp_of, written};
+ghost use Rattle.card.specs.Firing.{LawfulWord, code, cool_of, decode, hold_of, packed, ramp_of, written};
 ghost use Rattle.card.specs.Reading.{Reads};
 ghost use Rattle.card.specs.StepKinds.{number};
 ghost use Rattle.card.specs.declared.fault.CardFault.TheVariants.{NoCard};
@@ -48,6 +48,8 @@ impl FiringCard {
         Self::Section
     }
 
+    // Kept: `ramp` and `cool` differ in the variant alone, but `Self::slope(FiringCard::Ramp, target, rate)` is as long as the line that it would replace.
+
     // `made` says which card comes of which numbers. `lawful` says it by ranges: a card comes exactly when both numbers
     // lie in theirs, and it is the card with the word that the numbers make. So it is for the two calls below.
 
@@ -86,31 +88,8 @@ fn pack(kind: StepKind, target: u16, rate: u16, minutes: u16) -> u64
         + u64::from(minutes)
 }
 
-// The card that a kind and three numbers make. A number that has no meaning for the kind must be 0.
-fn card_of(kind: StepKind, target: u64, rate: u64, minutes: u64) -> Result<FiringCard, CardFault>
-    ensures { result ≡ ok_or (card_of (number kind) target rate minutes) NoCard }
-{
-    match (kind, target, rate, minutes) {
-        (StepKind::Section, 0, 0, 0) => Ok(FiringCard::section()),
-        (StepKind::Ramp, target, rate, 0) => FiringCard::ramp(target, rate),
-        (StepKind::Hold, target, 0, minutes) => FiringCard::hold(target, minutes),
-        (StepKind::Cool, target, rate, 0) => FiringCard::cool(target, rate),
-        _ => Err(CardFault::NoCard),
-    }
-}
-
-// The card that a word makes: each number is read from 16 bits, and the kind from all that is above them.
-fn card_in(word: u64) -> Result<FiringCard, CardFault>
-    ensures { result ≡ ok_or (decode word) NoCard }
-{
-    let kind = StepKind::try_from(word / 0x1_0000_0000_0000)?;
-    let target = word / 0x1_0000_0000 % 0x1_0000;
-    let rate = word / 0x1_0000 % 0x1_0000;
-    let minutes = word % 0x1_0000;
-    card_of(kind, target, rate, minutes)
-}
-
-// The word is kind × 2^48 + target × 2^32 + rate × 2^16 + minutes, with 0 for a number that the card has not.
+// The word is kind × 2^48 + target × 2^32 + rate × 2^16 + minutes, with 0 for a number that the card has not. So each number
+// is read from 16 bits, and the kind from all that is above them.
 // A word makes a card exactly when it is lawful: the word of a section, or of a ramp, hold or cooling whose numbers
 // lie in their ranges.
 impl Card for FiringCard {
@@ -145,7 +124,18 @@ impl Card for FiringCard {
         ensures made { result ≡ ok_or (decode word) NoCard }
         ensures lawful { Reads code (LawfulWord word) word result }
     {
-        card_in(word)
+        let kind = StepKind::try_from(word / 0x1_0000_0000_0000)?;
+        let target = word / 0x1_0000_0000 % 0x1_0000;
+        let rate = word / 0x1_0000 % 0x1_0000;
+        let minutes = word % 0x1_0000;
+        // A number that has no meaning for the kind must be 0.
+        match (kind, target, rate, minutes) {
+            (StepKind::Section, 0, 0, 0) => Ok(FiringCard::section()),
+            (StepKind::Ramp, target, rate, 0) => FiringCard::ramp(target, rate),
+            (StepKind::Hold, target, 0, minutes) => FiringCard::hold(target, minutes),
+            (StepKind::Cool, target, rate, 0) => FiringCard::cool(target, rate),
+            _ => Err(CardFault::NoCard),
+        }
     }
 }
 

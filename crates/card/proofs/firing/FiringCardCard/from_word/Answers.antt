@@ -1,6 +1,6 @@
 use Rattle.std.proofs.Common.{rules}
 use Rattle.card.specs.declared.firing.step_kind.StepKind.TheVariants.{Section, Ramp, Hold, Cool}
-use Rattle.card.proofs.firing.card_in.Goals as goal
+use Rattle.card.proofs.firing.FiringCardCard.from_word.Goals as goal
 
 -- a number that no kind has makes no card
 pub returns-in_err-kind : goal.returns-in_err-kind
