@@ -2,6 +2,7 @@
 ghost use Rattle.std.specs.Prelude.{false, ◌≡◌};
 
 use crate::permit::Permit;
+use std::mem;
 
 // A hold keeps a permit off for as long as it lasts. When it ends, on whatever way out, the permit reads what it read before.
 // While it lasts the permit is lent to it, so that nothing can be started on that permit.
@@ -17,8 +18,7 @@ impl<'a> Hold<'a> {
         ensures off { result.permit.now.on ≡ false }
         ensures over { result.permit.ghost_name ≡ permit.entry.ghost_name }
     {
-        let before = permit.on;
-        permit.on = false;
+        let before = mem::replace(&mut permit.on, false);
         Hold { permit, before }
     }
 
