@@ -14,8 +14,8 @@ pub struct Hold<'a> {
 impl<'a> Hold<'a> {
     // Takes a hold: it switches the permit off. That the reference is the same lets a caller know what the permit reads once the hold has ended.
     pub fn take(permit: &'a mut Permit) -> Hold<'a>
-        ensures before { result.before ≡ permit.old.on }
-        ensures off { result.permit.now.on ≡ false }
+        ensures before { result.before ≡ permit.old }
+        ensures off { result.permit.now ≡ false }
         ensures over { result.permit.ghost_name ≡ permit.entry.ghost_name }
     {
         let before = mem::replace(&mut permit.on, false);
@@ -24,13 +24,13 @@ impl<'a> Hold<'a> {
 
     // Ends the hold before its scope does.
     pub fn release(self)
-        ensures { self.exit.0.now.on ≡ self.entry.before }
+        ensures { self.exit.0.now ≡ self.entry.before }
     {}
 }
 
 impl Drop for Hold<'_> {
     fn drop(self)
-        ensures { self.exit.0.now.on ≡ self.entry.before }
+        ensures { self.exit.0.now ≡ self.entry.before }
     {
         let Hold { permit, before } = self;
         permit.on = before;
