@@ -48,7 +48,7 @@ impl FiringCard {
         Self::Section
     }
 
-    // Kept: `ramp` and `cool` differ in the variant alone, but `Self::slope(FiringCard::Ramp, target, rate)` is as long as the line that it would replace.
+    // Kept: `ramp` and `cool` differ in the variant alone, but over a shared function each would be longer: `let (target, rate) = slope(target, rate)?; Ok(FiringCard::Ramp(target, rate))`.
 
     // `made` says which card comes of which numbers. `lawful` says it by ranges: a card comes exactly when both numbers
     // lie in theirs, and it is the card with the word that the numbers make. So it is for the two calls below.
