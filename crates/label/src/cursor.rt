@@ -38,20 +38,19 @@ impl Cursor {
         let behind_bits = self.spot.left.checked_sub(width)?;
         let value = (self.rest >> behind_bits) as u8;
         let rest = self.rest % power(behind_bits);
-        if rest == 0 {
-            return Some(Piece {
-                subvalue: Subvalue {
-                    value,
-                    ends_level: true,
-                },
-                behind: None,
-            });
-        }
-        let one = power(behind_bits - 1);
-        let ends_level = rest < one;
+        let (ends_level, behind) = if rest == 0 {
+            (true, None)
+        } else {
+            let one = power(behind_bits - 1);
+            if rest < one {
+                (true, Some(rest))
+            } else {
+                (false, Some(rest - one))
+            }
+        };
         Some(Piece {
             subvalue: Subvalue { value, ends_level },
-            behind: Some(if ends_level { rest } else { rest - one }),
+            behind,
         })
     }
 

@@ -12,8 +12,8 @@ impl Subvalue {
     ghost use Rattle.label.specs.Label.{stands_at};
 
     // Whether it may stand in a label, at whatever position: one that ends its level is at least 1.
-    pub(crate) fn may_stand(self) -> bool
-        ensures { (position : ℕ) → result ≡ stands_at position self.value self.ends_level }
+    pub(crate) fn may_stand(&self) -> bool
+        ensures { (position : ℕ) → result ≡ stands_at position self.now.value self.now.ends_level }
     {
         !self.ends_level || self.value > 0
     }
