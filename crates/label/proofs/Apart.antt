@@ -51,12 +51,12 @@ module _ (w : ℕ → ℕ → ℕ) where
     pub rests : Rests n x l i left
     pub joined : so_far ++ spelling left ≡ spelling all
 
-  module _ (N word n x l i k : ℕ) (so_far : List Subvalue) (width : k ≡ w l i) (t : Taken N word n x l i so_far) where
+  module _ (N word : ℕ) {n x l i k : ℕ} {so_far : List Subvalue} (width : k ≡ w l i) (t : Taken N word n x l i so_far) where
     first_is : piece k n x ≡ Some (first_of n l i t.left)
     first_is = ap (λ (j : ℕ). piece j n x) width ∙ piece_is n x l i t.left t.rests
 
     pub taken_none : None ≡ piece k n x → ⊥
-    taken_none at = let e = at ∙ first_is in let z : ◌≡◌ {A = ℕ} 0 1 = cc in omega arith
+    taken_none at = let e = at ∙ first_is in cc
 
     behind : (p : Piece) (b : Option ℕ) → Some p ≡ piece k n x → p.behind ≡ b → Behind n l i (spelling t.left) p.subvalue b
     behind p b at is =
@@ -66,17 +66,17 @@ module _ (w : ℕ → ℕ → ℕ) where
         (subst (λ (q : Piece). Behind n l i (spelling t.left) q.subvalue q.behind) same (left_behind n x l i t.left t.rests))
 
     -- the last subvalue
-    pub taken_ends : (p : Piece) (c : Label) → Some p ≡ piece k n x → p.behind ≡ None → Of w N c word → so_far ++ (p.subvalue ∷ []) ≡ spelling c
-    taken_ends p c at last of =
+    pub taken_ends : {p : Piece} (c : Label) → Some p ≡ piece k n x → p.behind ≡ None → Of w N c word → so_far ++ (p.subvalue ∷ []) ≡ spelling c
+    taken_ends {p} c at last of =
         let same : t.all ≡ c = same_label w N t.all c t.of.0 of.0 (t.of.1 ∙ sym of.1) in
         ap (λ (q : List Subvalue). so_far ++ q) (behind p None at last).0 ∙ t.joined ∙ ap spelling same
 
     -- and one with more behind it
-    pub taken_more : (p : Piece) (y m v deep along : ℕ) (more : List Subvalue) → Some p ≡ piece k n x → p.behind ≡ Some y
+    pub taken_more : {p : Piece} {y m v deep along : ℕ} {more : List Subvalue} → Some p ≡ piece k n x → p.behind ≡ Some y
         → m ≡ n - k - 1 → v ≡ y → deep ≡ level_after p.subvalue.ends_level l → along ≡ position_after p.subvalue.ends_level i
         → more ≡ so_far ++ (p.subvalue ∷ [])
         → Taken N word m v deep along more
-    taken_more p y m v deep along more at is less rest_is deep_is along_is grown =
+    taken_more {p} {y} {m} {v} {deep} {along} {more} at is less rest_is deep_is along_is grown =
         let (room, (d, joined, rests)) = behind p (Some y) at is in
         let e : Bool = p.subvalue.ends_level in
         rw (less, rest_is, deep_is, along_is, grown) (record {

@@ -11,7 +11,7 @@ use Rattle.label.proofs.Pieces.{Tells, TellsOf, piece_tells, pow_half, in_front,
 use Rattle.label.proofs.Words.{start_some}
 
 onto_err : (g : Label → Label) (r : Result Label LabelFault) (e : LabelFault) → onto g r ≡ Err e → r ≡ Err e
-onto_err g (Ok c) e h = absurd (let z : ◌≡◌ {A = ℕ} 0 1 = cc in omega arith)
+onto_err g (Ok c) e h = absurd (cc)
 onto_err g (Err f) e h = cc
 
 -- a result that is refused unless a test holds is refused by the test, or itself
@@ -141,7 +141,7 @@ module _ (w : ℕ → ℕ → ℕ) where
         go (by_test z is) =
             let e₀ : s * 2 ^ (n - w l i) + 0 ≡ x = omega (arith, t.2) in
             subst (StopsFrom n x l i) is (here n x l i (Zero (N - n)) small (refl, (s, subst (λ (v : ℕ). EndsLevel w (w l i) n v s) e₀ (ends (w l i) n s 0 t.0 (omega (arith, pow_pos (n - w l i)))), z)))
-        go (by_result z is) = absurd (let z : ◌≡◌ {A = ℕ} 0 1 = cc in omega arith)
+        go (by_result z is) = absurd (cc)
     by_parts f n x l i e most small ih turns s false (Some y) t h =
         let m : ℕ = n - w l i - 1 in
         let stopped = ih m y l (i + 1) e (omega arith) (omega (arith, t.0)) t.2 (onto_err (next s) (scan w N f m y l (i + 1)) e h) in

@@ -95,24 +95,14 @@ pub tells_of : (k n x : ℕ) (p : Option Piece) → x < 2 ^ n → p ≡ piece k 
 tells_of k n x p h is = subst (Tells k n x) (sym is) (piece_tells k n x h)
 
 -- the bits behind a separator
-pub behind_fits : (k n x y : ℕ) (p : Piece) → x < 2 ^ n → Some p ≡ piece k n x → p.behind ≡ Some y → (k < n) × (y < 2 ^ (n - k - 1))
-behind_fits k n x y p h is at = by_parts p.subvalue.value p.subvalue.ends_level p.behind (tells_of k n x (Some p) h is) at
+pub behind_fits : {k n x y : ℕ} {p : Piece} → x < 2 ^ n → Some p ≡ piece k n x → p.behind ≡ Some y → (k < n) × (y < 2 ^ (n - k - 1))
+behind_fits {k} {n} {x} {y} {p} h is at = by_parts p.subvalue.value p.subvalue.ends_level p.behind (tells_of k n x (Some p) h is) at
   where
     by_parts : (s : ℕ) (e : Bool) (b : Option ℕ) → TellsOf k n x s e b → b ≡ Some y → (k < n) × (y < 2 ^ (n - k - 1))
     by_parts s false None t at = absurd t
-    by_parts s true None t at = absurd (let z : ◌≡◌ {A = ℕ} 0 1 = cc in omega arith)
+    by_parts s true None t at = absurd (cc)
     by_parts s false (Some z) t at = let same : z ≡ y = cc in (t.0, omega (arith, t.2))
     by_parts s true (Some z) t at = let same : z ≡ y = cc in (t.0, omega (arith, t.2))
-
--- a piece has bits enough for its subvalue
-pub last_fits : (k n x : ℕ) (p : Piece) → x < 2 ^ n → Some p ≡ piece k n x → k ≤ n
-last_fits k n x p h is = by_parts p.subvalue.value p.subvalue.ends_level p.behind (tells_of k n x (Some p) h is)
-  where
-    by_parts : (s : ℕ) (e : Bool) (b : Option ℕ) → TellsOf k n x s e b → k ≤ n
-    by_parts s false None t = absurd t
-    by_parts s true None t = t.0
-    by_parts s false (Some z) t = omega (arith, t.0)
-    by_parts s true (Some z) t = omega (arith, t.0)
 
 -- a subvalue of at most 8 bits is below 256
 pub value_small : (k n b x : ℕ) → b + k ≡ n → k ≤ 8 → x < 2 ^ n → x / 2 ^ b < 256

@@ -121,22 +121,24 @@ module _ (w : ℕ → ℕ → ℕ) (N x : ℕ) where
       ap (finished n l i p) (cond-true (stands_at i s true) _ _ (sym stands)) ∙ turn_down n l i s p (scan w N f (n - w l i - 1) z (l + 1) 0)
 
   -- The loop's invariant: what is left to read, n bits of value y from level l and position i on, finishes the answer.
-  abbrev pub Gathered : (n y l i : ℕ) → Option ℕ → Type 0
-  Gathered n y l i p = (f : ℕ) × (n < f) × (answer w N (label_of w N x) ≡ finished n l i p (scan w N f n y l i))
+  pub record Gathered (n y l i : ℕ) (p : Option ℕ) : Type 0 where
+    pub turns : ℕ
+    pub enough : n < turns
+    pub finishes : answer w N (label_of w N x) ≡ finished n l i p (scan w N turns n y l i)
 
   pub gather_start : x < 2 ^ N → Gathered N x 1 0 None
   unfolding label_of
-  gather_start h = (suc N, omega arith, by_label (label_of w N x) refl h)
+  gather_start h = record { turns = suc N; enough = omega arith; finishes = by_label (label_of w N x) refl h }
 
   -- the rest of the reading, from the piece at which it stands
   abbrev after : (f n l i : ℕ) → Option Piece → Result Label LabelFault
   after f n l i = outcome (N - n) i (λ z. scan w N f (n - w l i - 1) z l (i + 1)) (λ z. scan w N f (n - w l i - 1) z (l + 1) 0)
 
-  module _ (n y l i k : ℕ) (p : Option ℕ) (width : k ≡ w l i) (g : Gathered n y l i p) where
+  module _ {n y l i k : ℕ} {p : Option ℕ} (width : k ≡ w l i) (g : Gathered n y l i p) where
     -- a turn, by its piece
     turn : (q : Option Piece) → q ≡ piece k n y → (f : ℕ) × (n < suc f) × (answer w N (label_of w N x) ≡ finished n l i p (after f n l i q))
     unfolding scan
-    turn q is = go g.0 g.1 g.2
+    turn q is = go g.turns g.enough g.finishes
       where
         go : (f : ℕ) → n < f → answer w N (label_of w N x) ≡ finished n l i p (scan w N f n y l i)
             → (f : ℕ) × (n < suc f) × (answer w N (label_of w N x) ≡ finished n l i p (after f n l i q))
@@ -146,27 +148,27 @@ module _ (w : ℕ → ℕ → ℕ) (N x : ℕ) where
     pub gather_missing : None ≡ piece k n y → Err (Short (N - n)) ≡ answer w N (label_of w N x)
     gather_missing is = sym (turn None is).2
 
-    pub gather_zero : (q : Piece) → Some q ≡ piece k n y → false ≡ stands_at i q.subvalue.value q.subvalue.ends_level
+    pub gather_zero : {q : Piece} → Some q ≡ piece k n y → false ≡ stands_at i q.subvalue.value q.subvalue.ends_level
         → Err (Zero (N - n)) ≡ answer w N (label_of w N x)
-    gather_zero q is z =
+    gather_zero {q} is z =
         let (f, more, done) = turn (Some q) is in
         sym (done ∙ ap (finished n l i p) (zero_of (N - n) i q.subvalue.value q.subvalue.ends_level q.behind _ _ z))
 
-    pub gather_ends : (q : Piece) → Some q ≡ piece k n y → true ≡ stands_at i q.subvalue.value q.subvalue.ends_level → q.behind ≡ None
+    pub gather_ends : {q : Piece} → Some q ≡ piece k n y → true ≡ stands_at i q.subvalue.value q.subvalue.ends_level → q.behind ≡ None
         → Ok (made (N - n + k) l p) ≡ answer w N (label_of w N x)
-    gather_ends q is z last =
+    gather_ends {q} is z last =
         let (f, more, done) = turn (Some q) is in
         let s : ℕ = q.subvalue.value in
         let e : Bool = q.subvalue.ends_level in
         ap (λ (j : ℕ). Ok (made (N - n + j) l p)) width
         ∙ sym (done ∙ ap (λ (b : Option ℕ). finished n l i p (by_rest f n l i s e b)) last ∙ ap (finished n l i p) (cond-true (stands_at i s e) _ _ (sym z)))
 
-    pub gather_more : (q : Piece) (z m v deep along : ℕ) (p' : Option ℕ) → Some q ≡ piece k n y → true ≡ stands_at i q.subvalue.value q.subvalue.ends_level
+    pub gather_more : {q : Piece} {z m v deep along : ℕ} {p' : Option ℕ} → Some q ≡ piece k n y → true ≡ stands_at i q.subvalue.value q.subvalue.ends_level
         → q.behind ≡ Some z → k < n
         → m ≡ n - k - 1 → v ≡ z → deep ≡ level_after q.subvalue.ends_level l → along ≡ position_after q.subvalue.ends_level i
         → p' ≡ cond q.subvalue.ends_level (Some (cut x (n - k))) p
         → Gathered m v deep along p'
-    gather_more q z m v deep along p' is stands at h less rest_is deep_is along_is parent_now =
+    gather_more {q} {z} {m} {v} {deep} {along} {p'} is stands at h less rest_is deep_is along_is parent_now =
         let (f, more, done) = turn (Some q) is in
         let s : ℕ = q.subvalue.value in
         let e : Bool = q.subvalue.ends_level in
@@ -174,4 +176,4 @@ module _ (w : ℕ → ℕ → ℕ) (N x : ℕ) where
         done ∙ ap (λ (b : Option ℕ). finished n l i p (by_rest f n l i s e b)) at in
         rw (less, rest_is, deep_is, along_is, parent_now)
         (subst (λ (j : ℕ). Gathered (n - j - 1) z (level_after e l) (position_after e i) (cond e (Some (cut x (n - j))) p)) (sym width)
-        (f, omega (arith, width), same ∙ turn_more n l i s e p f z stands))
+        (record { turns = f; enough = omega (arith, width); finishes = same ∙ turn_more n l i s e p f z stands }))

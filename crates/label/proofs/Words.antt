@@ -56,11 +56,11 @@ module _ (w : ℕ → ℕ → ℕ) where
 
     onto_ok : (g : Label → Label) (r : Result Label LabelFault) (c : Label) → onto g r ≡ Ok c → (d : Label) × (r ≡ Ok d) × (g d ≡ c)
     onto_ok g (Ok d) c e = (d, refl, cc)
-    onto_ok g (Err f) c e = absurd (let z : ◌≡◌ {A = ℕ} 0 1 = cc in omega arith)
+    onto_ok g (Err f) c e = absurd (cc)
 
     closed_ok : (b : Bool) (r : Result Label LabelFault) (e : LabelFault) (c : Label) → cond b r (Err e) ≡ Ok c → (b ≡ true) × (r ≡ Ok c)
     closed_ok true r e c h = (refl, h)
-    closed_ok false r e c h = absurd (let z : ◌≡◌ {A = ℕ} 0 1 = cc in omega arith)
+    closed_ok false r e c h = absurd (cc)
 
     -- the n bits of value x spell c, which is lawful from level l and position i on
     abbrev Spells : (n x l i : ℕ) → Label → Type 0
@@ -93,12 +93,12 @@ module _ (w : ℕ → ℕ → ℕ) where
         → (p : Option Piece) → Tells (w l i) n x p
         → outcome (N - n) i (λ y. scan w N f (n - w l i - 1) y l (i + 1)) (λ y. scan w N f (n - w l i - 1) y (l + 1) 0) p ≡ Ok c
         → Spells n x l i c
-    by_piece f n x l i c ih None t e = absurd (let z : ◌≡◌ {A = ℕ} 0 1 = cc in omega arith)
+    by_piece f n x l i c ih None t e = absurd (cc)
     by_piece f n x l i c ih (Some p) t e = by_parts f n x l i c ih p.subvalue.value p.subvalue.ends_level p.behind t e
 
     -- a word that is read as a label is that label's word
     pub scan_tells : (f n x l i : ℕ) (c : Label) → x < 2 ^ n → scan w N f n x l i ≡ Ok c → Spells n x l i c
     unfolding scan
-    scan_tells zero n x l i c h e = absurd (let z : ◌≡◌ {A = ℕ} 0 1 = cc in omega arith)
+    scan_tells zero n x l i c h e = absurd (cc)
     scan_tells (suc f) n x l i c h e =
         by_piece f n x l i c (scan_tells f) (piece (w l i) n x) (piece_tells (w l i) n x h) e

@@ -13,16 +13,16 @@ returns-in_err-first g t c =
 pub returns-in_err-value : goal.returns-in_err-value
 returns-in_err-value g t c =
     rw c.from_residual-in_err-value.ensures
-    (no_value _ _ _ _ _ c.width-width.ensures.is _ _ _ c.in_ok-first.ensures.cases.0 (c.in_err-value.ensures c.args.spot.position))
+    (no_value _ _ _ _ c.width-width.ensures.is c.in_ok-first.ensures.cases.0 (c.in_err-value.ensures c.args.spot.position))
 
 pub returns-then-is_empty : goal.returns-then-is_empty
 returns-then-is_empty g t c =
     rw c.then_some.ensures
-    (last_value _ _ _ _ _ c.width-width.ensures.is _ _ _ c.in_ok-first.ensures.cases.0 _ (c.in_ok-value.ensures c.args.spot.position) (sym c.if-is_empty.ensures))
+    (last_value _ _ _ _ c.width-width.ensures.is c.in_ok-first.ensures.cases.0 _ (c.in_ok-value.ensures c.args.spot.position) (sym c.if-is_empty.ensures))
 
 pub returns-then-spot-width : goal.returns-then-spot-width
 returns-then-spot-width g t c =
-    no_room _ _ _ _ _ c.width-width.ensures.is _ _ _ c.in_ok-first.ensures.cases.0 (sym c.if-is_empty.ensures) c.if-spot-width.true
+    no_room _ _ _ _ c.width-width.ensures.is c.in_ok-first.ensures.cases.0 (sym c.if-is_empty.ensures) c.if-spot-width.true
 
 pub behind-next-requires : goal.behind-next-requires
 behind-next-requires g t c = let room = c.in_ok-value.ensures c.args.spot.position in grind (arith, room.0)
@@ -34,7 +34,7 @@ pub returns-in_err-rest : goal.returns-in_err-rest
 returns-in_err-rest g t c =
     let room = c.in_ok-value.ensures c.args.spot.position in
     rw c.from_residual-in_err-rest.ensures
-    (no_rest _ _ _ _ _ c.width-width.ensures.is _ _ _ c.in_ok-first.ensures.cases.0 _ _ _ (grind (arith, room.0))
+    (no_rest _ _ _ _ c.width-width.ensures.is c.in_ok-first.ensures.cases.0 (grind (arith, room.0))
     c.behind-next.ensures.left c.behind-next.ensures.level c.behind-next.ensures.position (sym c.if-is_empty.ensures) c.in_err-rest.ensures)
 
 -- what the subvalue and the rest are written as, and that it fits
@@ -44,9 +44,8 @@ whole : (g : given.Over) (t : ℕ) (c : goal.After-separator g t)
     × (total < 2 ^ word_bits)
 whole g t c =
     let room = c.in_ok-value.ensures c.args.spot.position in
-    let all = whole_value (g.P.WidthPlan.width c.args.plan.now) _ _ _ _ c.width-width.ensures.is _ _ _ c.in_ok-first.ensures.cases.0 _ _ _ (grind (arith, room.0))
-    c.behind-next.ensures.left c.behind-next.ensures.level c.behind-next.ensures.position c.in_ok-value.value c.in_ok-rest.rest c.separator.result
-    room c.separator.ensures c.in_ok-rest.ensures in
+    let all = whole_value _ _ _ _ c.width-width.ensures.is c.in_ok-first.ensures.cases.0 (grind (arith, room.0))
+    c.behind-next.ensures.left c.behind-next.ensures.level c.behind-next.ensures.position _ _ room c.separator.ensures c.in_ok-rest.ensures in
     let most : 2 ^ c.args.spot.left ≤ 2 ^ word_bits = pow_mono c.args.spot.within in
     (all.0, omega (arith, all.1, most))
 
