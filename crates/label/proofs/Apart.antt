@@ -1,5 +1,5 @@
 -- The pieces of a lawful label's word are its subvalues. Assumes nothing.
-use Rattle.std.proofs.Common.{◌≡◌, ℕ, ◌+◌, ◌-◌, ◌^◌, ◌<◌, ◌≤◌, Bool, List, [], ◌∷◌, ◌++◌, Some, None, Option, sym, refl, ap, ◌∙◌, subst, append_assoc, arith}
+use Rattle.std.proofs.Common.{◌≡◌, ℕ, ◌+◌, ◌-◌, ◌<◌, ◌≤◌, Bool, List, [], ◌∷◌, ◌++◌, Some, None, Option, sym, refl, ap, ◌∙◌, subst, append_assoc, arith}
 use Rattle.label.specs.Label.{Label, end, next, down, bits, spelled, Fits}
 use Rattle.label.specs.Reading.{piece, ending, going_on, going_down}
 use Rattle.label.specs.Spelling.{spelling, level_after, position_after}

@@ -1,6 +1,6 @@
 -- Reading stops at a fault exactly where the law of faults says so. Assumes nothing.
 use Rattle.std.proofs.Common.{◌≡◌, ℕ, zero, suc, ◌+◌, ◌-◌, ◌*◌, ◌^◌, ◌<◌, ◌≤◌, Bool, true, false, cond, Some, None, Ok, Err, Option, Result, sym, refl, ap, ◌∙◌, subst, ⊎_elim, mul-le-mul, arith, pow_pos}
-use Rattle.std.proofs.lemmas.Bool.{cond-true, cond-false, lt-ltb, cases_lt}
+use Rattle.std.proofs.lemmas.Bool.{cond-true, cond-false, lt-ltb, ltb-true, cases_lt}
 use Rattle.label.specs.Label.{Label, end, next, down, may_end}
 use Rattle.label.specs.Reading.{piece, onto, outcome, outcome_of, scan}
 use Rattle.label.specs.Stops.{Front, start, on, under, FrontGoesOn, front_bits, front_spelled, FrontFits, next_position, next_width, Begins, EndsLevel, Wrong}
@@ -8,7 +8,6 @@ use Rattle.label.specs.declared.piece.Piece.{Piece}
 use Rattle.label.specs.declared.fault.LabelFault.{LabelFault}
 use Rattle.label.specs.declared.fault.LabelFault.TheVariants.{Short, Zero}
 use Rattle.label.proofs.Pieces.{Tells, TellsOf, piece_tells, pow_half, in_front, room, piece_end, piece_next, piece_down}
-use Rattle.label.proofs.Words.{start_some}
 
 onto_err : (g : Label → Label) (r : Result Label LabelFault) (e : LabelFault) → onto g r ≡ Err e → r ≡ Err e
 onto_err g (Ok c) e h = absurd (cc)
@@ -55,7 +54,7 @@ module _ (w : ℕ → ℕ → ℕ) where
   front_some n l s start rest fits going = omega (arith, going)
   front_some n l s (on t f) rest fits going = omega (arith, pow_pos (n - w l 0 - 1))
   front_some n l s (under t f) rest fits going =
-      omega (arith, mul-le-mul (start_some w t fits.0) (pow_pos (n - w l 0)))
+      omega (arith, mul-le-mul (ltb-true 0 t fits.0) (pow_pos (n - w l 0)))
 
   module _ (N : ℕ) where
     -- how reading stops from n bits of value x on, at level l and position i

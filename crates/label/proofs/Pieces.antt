@@ -1,5 +1,5 @@
 -- The arithmetic of one step of reading. Assumes nothing.
-use Rattle.std.proofs.Common.{◌≡◌, ℕ, ◌+◌, ◌-◌, ◌*◌, ◌/◌, ◌%◌, ◌^◌, ◌<◌, ◌≤◌, Bool, true, false, eqb, ltb, Some, None, Option, sym, refl, ap, ◌∙◌, subst, ⊎_elim, arith, pow_pos, pow_mono, pow-add}
+use Rattle.std.proofs.Common.{◌≡◌, ℕ, ◌+◌, ◌-◌, ◌*◌, ◌/◌, ◌%◌, ◌^◌, ◌<◌, ◌≤◌, Bool, true, false, eqb, ltb, Some, None, Option, sym, ap, ◌∙◌, subst, ⊎_elim, arith, pow_pos, pow_mono, pow-add}
 use lib.Arith.{digits_div, digits_lt, digits_mod}
 use Rattle.std.proofs.lemmas.Bool.Decides.{nat_tests}
 use Rattle.std.proofs.lemmas.Bool.{lt-ltb, le-ltb, eqb-true, ltb-true, ltb-false, cond_both, cases_lt}
@@ -19,9 +19,6 @@ pow_half k n h = let e : n - k ≡ 1 + (n - k - 1) = omega arith in ap (λ m. 2 
 pub piece_at : (k n s r : ℕ) → k ≤ n → r < 2 ^ (n - k) → piece k n (s * 2 ^ (n - k) + r) ≡ Some (piece_of (2 ^ (n - k - 1)) s r)
 piece_at k n s r h below = rw (le-ltb n k h, digits_div s below, digits_mod s below)
 
-pub of_end : (one s : ℕ) → piece_of one s 0 ≡ ending s
-of_end one s = refl
-
 pub of_down : (one s r : ℕ) → 1 ≤ r → r < one → piece_of one s r ≡ going_down s r
 of_down one s r p q = grind (arith, nat_tests)
 
@@ -36,7 +33,7 @@ in_front k n s r h small below = omega (arith, pow_apart k n h, digits_lt small 
 pub piece_end : (k n s : ℕ) → k ≤ n → piece k n (s * 2 ^ (n - k)) ≡ Some (ending s)
 piece_end k n s h =
     let e : s * 2 ^ (n - k) ≡ s * 2 ^ (n - k) + 0 = omega arith in
-    ap (piece k n) e ∙ piece_at k n s 0 h (pow_pos (n - k)) ∙ ap Some (of_end (2 ^ (n - k - 1)) s)
+    ap (piece k n) e ∙ piece_at k n s 0 h (pow_pos (n - k))
 
 pub piece_next : (k n s r : ℕ) → k < n → r < 2 ^ (n - k - 1) → piece k n (s * 2 ^ (n - k) + 2 ^ (n - k - 1) + r) ≡ Some (going_on s r)
 piece_next k n s r h small =
@@ -90,13 +87,9 @@ piece_tells k n x h = ⊎_elim fewer enough (cases_lt n k)
         let small : x / 2 ^ (n - k) < 2 ^ k = div_below x (2 ^ (n - k)) (2 ^ k) (pow_pos (n - k)) (omega (arith, pow_apart k n g)) in
         rw (le-ltb n k g) (of_tells k n x (x / 2 ^ (n - k)) (x % 2 ^ (n - k)) g small (mod_below x (2 ^ (n - k)) (pow_pos (n - k))) whole)
 
--- the same of a piece that is known
-pub tells_of : (k n x : ℕ) (p : Option Piece) → x < 2 ^ n → p ≡ piece k n x → Tells k n x p
-tells_of k n x p h is = subst (Tells k n x) (sym is) (piece_tells k n x h)
-
 -- the bits behind a separator
 pub behind_fits : {k n x y : ℕ} {p : Piece} → x < 2 ^ n → Some p ≡ piece k n x → p.behind ≡ Some y → (k < n) × (y < 2 ^ (n - k - 1))
-behind_fits {k} {n} {x} {y} {p} h is at = by_parts p.subvalue.value p.subvalue.ends_level p.behind (tells_of k n x (Some p) h is) at
+behind_fits {k} {n} {x} {y} {p} h is at = by_parts p.subvalue.value p.subvalue.ends_level p.behind (subst (Tells k n x) (sym is) (piece_tells k n x h)) at
   where
     by_parts : (s : ℕ) (e : Bool) (b : Option ℕ) → TellsOf k n x s e b → b ≡ Some y → (k < n) × (y < 2 ^ (n - k - 1))
     by_parts s false None t at = absurd t

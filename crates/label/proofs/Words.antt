@@ -23,15 +23,11 @@ module _ (w : ℕ → ℕ → ℕ) where
       omega (arith, pow_half (w l i) n room, below (n - w l i - 1) (l + 1) 0 c f.2 rest) in
       omega (arith, in_front (w l i) n s (spelled w (n - w l i - 1) (l + 1) 0 c) (omega arith) f.1 behind)
 
-  -- a level that begins with its last subvalue is not 0
-  pub start_some : (s : ℕ) → may_end 0 s ≡ true → 1 ≤ s
-  start_some s h = ltb-true 0 s h
-
   -- a level's bits are not all 0, so that the separator before it is seen
   pub positive : (n l : ℕ) (c : Label) → Fits w l 0 c → 1 ≤ spelled w n l 0 c
-  positive n l (end s) f = omega (arith, start_some s f.0, pow_pos (n - w l 0), mul-le-mul (start_some s f.0) (pow_pos (n - w l 0)))
+  positive n l (end s) f = omega (arith, ltb-true 0 s f.0, pow_pos (n - w l 0), mul-le-mul (ltb-true 0 s f.0) (pow_pos (n - w l 0)))
   positive n l (next s c) f = omega (arith, pow_pos (n - w l 0 - 1))
-  positive n l (down s c) f = omega (arith, start_some s f.0, pow_pos (n - w l 0), mul-le-mul (start_some s f.0) (pow_pos (n - w l 0)))
+  positive n l (down s c) f = omega (arith, ltb-true 0 s f.0, pow_pos (n - w l 0), mul-le-mul (ltb-true 0 s f.0) (pow_pos (n - w l 0)))
 
   module _ (N : ℕ) where
     -- a lawful label is read back from its word

@@ -49,9 +49,6 @@ impl fmt::Display for LabelFault {
     ghost output = { λ fault. Some (text_of fault) };
 
     fn fmt<W: fmt::Write>(&self, f: &mut fmt::Formatter<W>) -> fmt::Result {
-        let number = self.number();
-        let name = self.name();
-        let bit = self.bit();
-        write!(f, "{number} {name} bit {bit}")
+        write!(f, "{} {} bit {}", self.number(), self.name(), self.bit())
     }
 }

@@ -1,4 +1,4 @@
-use Rattle.std.proofs.Common.{◌≡◌, ℕ, ◌+◌, ◌-◌, ◌≤◌, ◌∙◌, arith}
+use Rattle.std.proofs.Common.{◌∙◌, arith}
 use Rattle.label.specs.Label.{word_bits}
 use Rattle.label.proofs.Pieces.{behind_fits}
 use Rattle.label.proofs.Apart.{taken_none, taken_ends, taken_more}
