@@ -1,5 +1,5 @@
 // Words of labels: writing them.
-ghost use Rattle.std.specs.Prelude.{◌≡◌, ℕ, ◌<◌, ◌≤◌};
+ghost use Rattle.std.specs.Prelude.{◌≡◌, ◌<◌, ◌≤◌};
 ghost use Rattle.label.specs.Label.{word_bits};
 ghost use Rattle.label.specs.Spelling.{Writes, WritesFrom, Places, separator_after};
 
@@ -8,12 +8,12 @@ use crate::subvalue::Subvalue;
 use crate::word::{Word, power};
 use plan::WidthPlan;
 
-// The value of `left` bits that begin with a subvalue of `width` bits and have zeros behind it. None where there are fewer bits, it is too large, or it may not stand in a label.
-fn place(subvalue: Subvalue, width: u32, left: u32) -> Option<Word>
-    requires { (1 ≤ width) × (width ≤ 8) × (left ≤ word_bits) }
-    ensures { (position : ℕ) → Places width left position subvalue.value subvalue.ends_level result }
+// The value of the bits left at a spot that begin with a subvalue of `width` bits and have zeros behind it. None where there are fewer bits, it is too large, or it may not stand in a label.
+fn place(subvalue: Subvalue, spot: Spot, width: u32) -> Option<Word>
+    requires { (1 ≤ width) × (width ≤ 8) }
+    ensures { Places width spot.left spot.position subvalue.value subvalue.ends_level result }
 {
-    let behind = left.checked_sub(width)?;
+    let behind = spot.left.checked_sub(width)?;
     let value = Word::from(subvalue.value);
     if value >= power(width) {
         return None;
@@ -38,7 +38,7 @@ fn spell<P: WidthPlan>(plan: &P, subvalues: &[Subvalue], spot: Spot) -> Option<W
 {
     let (first, further) = subvalues.split_first()?;
     let width = spot.width(plan);
-    let value = place(*first, width, spot.left)?;
+    let value = place(*first, spot, width)?;
     if further.is_empty() {
         return first.ends_level.then_some(value);
     }

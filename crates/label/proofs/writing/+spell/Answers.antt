@@ -13,26 +13,20 @@ returns-in_err-first g t c =
 pub returns-in_err-value : goal.returns-in_err-value
 returns-in_err-value g t c =
     rw c.from_residual-in_err-value.ensures
-    (no_value _ _ _ _ c.width-width.ensures.is c.in_ok-first.ensures.cases.0 (c.in_err-value.ensures c.args.spot.position))
+    (no_value _ _ _ _ c.width-width.ensures.is c.in_ok-first.ensures.cases.0 c.in_err-value.ensures)
 
 pub returns-then-is_empty : goal.returns-then-is_empty
 returns-then-is_empty g t c =
     rw c.then_some.ensures
-    (last_value _ _ _ _ c.width-width.ensures.is c.in_ok-first.ensures.cases.0 _ (c.in_ok-value.ensures c.args.spot.position) (sym c.if-is_empty.ensures))
+    (last_value _ _ _ _ c.width-width.ensures.is c.in_ok-first.ensures.cases.0 _ c.in_ok-value.ensures (sym c.if-is_empty.ensures))
 
 pub returns-then-spot-width : goal.returns-then-spot-width
 returns-then-spot-width g t c =
     no_room _ _ _ _ c.width-width.ensures.is c.in_ok-first.ensures.cases.0 (sym c.if-is_empty.ensures) c.if-spot-width.true
 
-pub behind-next-requires : goal.behind-next-requires
-behind-next-requires g t c = let room = c.in_ok-value.ensures c.args.spot.position in grind (arith, room.0)
-
-pub spell-requires : goal.spell-requires
-spell-requires g t c κs within = (omega (arith, c.decreases, c.behind-next.ensures.left, c.in_ok-value.ensures c.args.spot.position), within)
-
 pub returns-in_err-rest : goal.returns-in_err-rest
 returns-in_err-rest g t c =
-    let room = c.in_ok-value.ensures c.args.spot.position in
+    let room = c.in_ok-value.ensures in
     rw c.from_residual-in_err-rest.ensures
     (no_rest _ _ _ _ c.width-width.ensures.is c.in_ok-first.ensures.cases.0 (grind (arith, room.0))
     c.behind-next.ensures.left c.behind-next.ensures.level c.behind-next.ensures.position (sym c.if-is_empty.ensures) c.in_err-rest.ensures)
@@ -43,7 +37,7 @@ whole : (g : given.Over) (t : ℕ) (c : goal.After-separator g t)
     WritesFrom (g.P.WidthPlan.width c.args.plan.now) c.args.spot.left c.args.spot.level c.args.spot.position c.args.subvalues.now (Some total)
     × (total < 2 ^ word_bits)
 whole g t c =
-    let room = c.in_ok-value.ensures c.args.spot.position in
+    let room = c.in_ok-value.ensures in
     let all = whole_value _ _ _ _ c.width-width.ensures.is c.in_ok-first.ensures.cases.0 (grind (arith, room.0))
     c.behind-next.ensures.left c.behind-next.ensures.level c.behind-next.ensures.position _ _ room c.separator.ensures c.in_ok-rest.ensures in
     let most : 2 ^ c.args.spot.left ≤ 2 ^ word_bits = pow_mono c.args.spot.within in
