@@ -1,7 +1,7 @@
 // One story on every keeping shelf, each lent to it.
 use crate::{Chain, Link};
 use label::Word;
-use shelf::{Keeping, Lent, OrderedTable, Reading, Row, ShelfFault, State, next_filled};
+use shelf::{Keeping, OrderedTable, Reading, Row, ShelfFault, State, next_filled};
 use std::process::Abort;
 use std::test::Fail;
 
@@ -31,12 +31,12 @@ fn tell<S: Keeping>(rt: &impl Abort, shelf: &mut S) -> Result<(), Fail> {
 fn table_story(rt: HostRuntime) -> Result<(), Fail> {
     let mut memory = [opened(1); 2];
     let mut table = OrderedTable::new(&mut memory);
-    tell(&rt, &mut Lent { shelf: &mut table })
+    tell(&rt, &mut &mut table)
 }
 
 #[test]
 fn chain_story(rt: HostRuntime) -> Result<(), Fail> {
     let mut memory = [Link::BLANK; 2];
     let mut chain = Chain::new(&mut memory);
-    tell(&rt, &mut Lent { shelf: &mut chain })
+    tell(&rt, &mut &mut chain)
 }

@@ -12,7 +12,6 @@ mod table;
 
 pub use fault::ShelfFault;
 pub use keeping::Keeping;
-pub use lent::Lent;
 pub use reading::{MOST_ROWS, Reading};
 pub use row::{Row, State};
 pub use rows::Rows;

@@ -16,9 +16,6 @@ pub trait Reading {
     // The list that the shelf means.
     ghost rows: { Self → List Row };
 
-    // Every shelf's list is lawful, whatever was done to the shelf.
-    ghost lawful: { (s : Self) → LawfulRows (rows s) };
-
     // How many rows there are.
     fn count(&self) -> usize
         ensures { result ≡ length (rows self.now) };
@@ -62,4 +59,7 @@ pub trait Reading {
     {
         self.seek(label).ok()
     }
+
+    // Every shelf's list is lawful, whatever was done to the shelf.
+    ghost lawful: { (s : Self) → LawfulRows (rows s) };
 }

@@ -14,6 +14,6 @@ returns g c =
     (c.zip.ensures.first ∙ ap (λ n. record { start = c.rank-start.result; end = n }) c.count-count.ensures) refl in
     let rows = YieldsList-from_first (λ r. r) (λ rest. rest) (stretch rs c.rank-start.result (length rs))
     (c.zip.ensures.second ∙ c.new.ensures ∙ ap (stretch rs c.rank-start.result) c.count-count.ensures) in
-    first_is_next rs _ c.rank-start.result _ (g.S.Reading.lawful _).rising c.rank-start.ensures
+    first_is_next rs _ c.rank-start.result _ (g.met.S.Reading.lawful _).rising c.rank-start.ensures
     (first_from_find {v = λ p. (p.0, p.1)} _ _ c.find.result (λ p. FilledAbove c.args.mark p.1) (λ p. FilledAbove c.args.mark p.1 → ⊥) c.find.ensures.ran
     (YieldsList-from_zip range rows) (λ x q k. search (rules, tests)) (λ x q k. search (rules, tests)))
