@@ -137,21 +137,21 @@ present_is rs l k up h same = (
 pub present_row : (rs : List Row) (l k : ℕ) (r : Row) → Rising rs → RowAt rs k (Some r) → r.label ≡ l → (index_of rs l ≡ Some k) × (k ≡ rank_of rs l)
 present_row rs l k r up (h, here) same = present_is rs l k up h (ap (λ x. x.label) here ∙ same)
 
--- what an answer of `cmp` at two numbers says
+-- what the answers of `cmp` at two numbers say
 pub equal_same : (a b : ℕ) → nat_cmp a b ≡ Equal → a ≡ b
 equal_same a b e = grind (arith, tests)
+
+pub less_below : (a b : ℕ) → nat_cmp a b ≡ Less → a < b
+less_below a b e = grind (arith, tests)
+
+pub greater_above : (a b : ℕ) → nat_cmp a b ≡ Greater → b < a
+greater_above a b e = grind (arith, tests)
 
 -- what a binary search for the label l answers
 pub searched : (rs : List Row) (l : ℕ) (r : Result ℕ ℕ) → Rising rs → IsSearchInRange r (length rs) → IsBinarySearchResult (λ y. nat_cmp y.label l) rs r → Sought rs l r
 searched rs l (Ok i) up within at = present_is rs l i up within (equal_same _ _ (at blank))
 searched rs l (Err i) up within parted =
     absent_is rs l i within (λ k h. less_below _ _ (parts.0 k blank (omega arith) h)) (λ k p q. greater_above _ _ (parts.1 k blank p q)) where
-      less_below : (a b : ℕ) → nat_cmp a b ≡ Less → a < b
-      less_below a b e = grind (arith, tests)
-
-      greater_above : (a b : ℕ) → nat_cmp a b ≡ Greater → b < a
-      greater_above a b e = grind (arith, tests)
-
       higher : (a b : ℕ) → a ≤ b → ordering_index (nat_cmp a l) ≤ ordering_index (nat_cmp b l)
       higher a b le = grind (arith, tests)
 
