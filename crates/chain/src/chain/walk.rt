@@ -4,12 +4,11 @@ ghost use Rattle.shelf.specs.Rows.{row_at};
 ghost use Rattle.chain.specs.Links.{link_at, slot_at};
 ghost use Rattle.chain.specs.Chains.{chain_rows, Seated};
 
-use std::cmp::Ordering;
-
 use super::Chain;
 use crate::link::Link;
 use crate::vacancy::Vacancy;
 use label::Word;
+use std::cmp::Ordering;
 
 impl<'a> Chain<'a> {
     // The slot of the row at an index.

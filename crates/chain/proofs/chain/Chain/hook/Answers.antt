@@ -51,13 +51,15 @@ hooked c =
     let rank = rank_of (chain_rows chain) c.args.row.label in
     let room : chain.len < min (length ls) most_rows = omega (arith, c.requires.room, chain.long) in
     elim c.match-before.branch [
-      in-None w ↦
+      | in-None w ↦
           let behind = subst (ComesBehind chain c.args.row.label) w.in-None.is c.requires.behind in
           rw w.self-is (length-set ls chain.len _, first_hooked ls chain.head chain.len c.args.row (omega arith) chain.inside behind)
       | in-Some w ↦
           let behind = subst (ComesBehind chain c.args.row.label) w.in-Some.is c.requires.behind in
-          rw w.self-is (length-set _ w.in-Some.slot _ ∙ length-set ls chain.len _,
-          behind_hooked ls chain.head chain.len c.args.row (omega arith) chain.inside w.in-Some.slot chain.rising behind)
+          rw w.self-is (
+            length-set _ w.in-Some.slot _ ∙ length-set ls chain.len _,
+            behind_hooked ls chain.head chain.len c.args.row (omega arith) chain.inside w.in-Some.slot chain.rising behind,
+          )
     ]
 
 pub invariant_of-self-2 : goal.invariant_of-self-2
