@@ -12,5 +12,5 @@ returns-then-row-bound g c =
     let rows = g.S.Reading.rows shelf in
     let row = c.in-Some.ensures in
     no_child_both L rows c.args.parent c.args.start c.rows.index (length rows) c.rows.invariant.1
-    (no_child_past L rows c.args.parent (g.S.Reading.lawful shelf).rising c.args.bound c.rows.index c.requires row.0
+    (no_child_past L rows c.args.parent (g.met.S.Reading.lawful shelf).rising c.args.bound c.rows.index c.requires row.0
     (omega (arith, ap (λ (r : Row). r.label) row.1, c.if-row-bound.true)))

@@ -19,5 +19,5 @@ returns-then-row-parent g c =
     let S = plan_sound w (g.met.P.WidthPlan.low c.args.plan.now) (g.met.P.WidthPlan.high c.args.plan.now) in
     no_child_both L rows p 0 c.rows.index c.args.end
     (subst (λ (k : ℕ). NoChild L rows p 0 k) here
-    (no_child_below L rows p (g.S.Reading.lawful shelf).rising S (c.rows.index - 1) row.0 (omega (arith, ap (λ (r : Row). r.label) row.1, c.if-row-parent.true))))
+    (no_child_below L rows p (g.met.S.Reading.lawful shelf).rising S (c.rows.index - 1) row.0 (omega (arith, ap (λ (r : Row). r.label) row.1, c.if-row-parent.true))))
     c.rows.invariant.1

@@ -7,11 +7,11 @@ pub returns-else-row-label : goal.returns-else-row-label
 returns-else-row-label g c =
     let shelf = c.args.shelf.now in
     let row = c.in-Some.ensures in
-    past_between (g.S.Reading.rows shelf) (g.S.Reading.lawful shelf).rising c.args.label _ c.rank-rank.ensures
+    past_between (g.S.Reading.rows shelf) (g.met.S.Reading.lawful shelf).rising c.args.label _ c.rank-rank.ensures
     (λ inside here. c.if-row-label.false (sym (ap (λ (r : Row). r.label) row.1) ∙ here))
 
 pub returns-in-None : goal.returns-in-None
 returns-in-None g c =
     let shelf = c.args.shelf.now in
-    past_between (g.S.Reading.rows shelf) (g.S.Reading.lawful shelf).rising c.args.label _ c.rank-rank.ensures
+    past_between (g.S.Reading.rows shelf) (g.met.S.Reading.lawful shelf).rising c.args.label _ c.rank-rank.ensures
     (λ inside here. omega (arith, c.in-None.ensures))

@@ -15,6 +15,6 @@ returns-else-eq g c =
     inl (
       λ k. same_false the_type _ _ (sym c.if-eq.ensures)
           (state_is (g.S.Reading.rows c.args.shelf.now) c.args.label c.in-Some.index c.in-Some.row c.in-Some.ensures
-          (g.S.Reading.lawful c.args.shelf.now).rising Opened k),
+          (g.met.S.Reading.lawful c.args.shelf.now).rising Opened k),
       refl,
     )

@@ -14,7 +14,7 @@ returns-then-not-filled g c =
     let x = c.args.label in
     let (known, is) = c.in_ok-index.ensures in
     let free : ¬ (x ≡ (labels_of (g.P.WidthPlan.width c.args.plan.now) word_bits).head) = λ e. c.if-label-head_label.false (e ∙ sym c.head_label.ensures) in
-    let test = state_test rows x c.in_ok-index.index c.in_ok-index.row is (g.S.Reading.lawful c.args.shelf.now).rising Filled c.eq-filled.result
+    let test = state_test rows x c.in_ok-index.index c.in_ok-index.row is (g.met.S.Reading.lawful c.args.shelf.now).rising Filled c.eq-filled.result
     c.eq-filled.ensures in
     inr (known.0, inr (free, inl (not_so _ _ test c.if-not-filled.true, refl)))
 
@@ -25,7 +25,7 @@ returns-then-stands_below g c =
     let x = c.args.label in
     let (known, is) = c.in_ok-index.ensures in
     let free : ¬ (x ≡ L.head) = λ e. c.if-label-head_label.false (e ∙ sym c.head_label.ensures) in
-    let test = state_test rows x c.in_ok-index.index c.in_ok-index.row is (g.S.Reading.lawful c.args.shelf.now).rising Filled c.eq-filled.result
+    let test = state_test rows x c.in_ok-index.index c.in_ok-index.row is (g.met.S.Reading.lawful c.args.shelf.now).rising Filled c.eq-filled.result
     c.eq-filled.ensures in
     let below = not_bare L rows x (so _ _ c.stands_below.ensures c.if-stands_below.true) in
     inr (known.0, inr (free, inr (so _ _ test c.if-not-filled.false, inl (λ bare. bare below, refl))))
@@ -37,7 +37,7 @@ returns g c =
     let x = c.args.label in
     let (known, is) = c.in_ok-index.ensures in
     let free : ¬ (x ≡ L.head) = λ e. c.if-label-head_label.false (e ∙ sym c.head_label.ensures) in
-    let test = state_test rows x c.in_ok-index.index c.in_ok-index.row is (g.S.Reading.lawful c.args.shelf.now).rising Filled c.eq-filled.result
+    let test = state_test rows x c.in_ok-index.index c.in_ok-index.row is (g.met.S.Reading.lawful c.args.shelf.now).rising Filled c.eq-filled.result
     c.eq-filled.ensures in
     let bare : ¬ (NotBare L rows x) = λ k. not_so _ _ c.stands_below.ensures c.if-stands_below.false (occupied L rows x k) in
     ((known.0, (free, (so _ _ test c.if-not-filled.false, (bare, tt)))), (c.in_ok-index.row, is))
