@@ -6,6 +6,7 @@ mod keeping;
 mod lent;
 mod reading;
 mod row;
+mod rows;
 mod scan;
 mod table;
 
@@ -14,5 +15,6 @@ pub use keeping::Keeping;
 pub use lent::Lent;
 pub use reading::{MOST_ROWS, Reading};
 pub use row::{Row, State};
+pub use rows::Rows;
 pub use scan::next_filled;
 pub use table::OrderedTable;
