@@ -4,7 +4,9 @@
 mod below;
 mod child;
 mod next;
+mod planned;
 mod rank;
+mod words;
 
-pub use below::stands_below;
-pub use next::neighbours;
+pub use planned::PlannedShelf;
+pub use words::{is_label, parent_of};

@@ -1,32 +1,22 @@
 // The label of a new place.
-ghost use Rattle.std.specs.Prelude.{◌≡◌, ℕ, T, Some};
+ghost use Rattle.std.specs.Prelude.{◌≡◌, ℕ, T, Some, Decides};
 ghost use Rattle.label.specs.Label.{word_bits};
 ghost use Rattle.gap.specs.PlanLabels.{labels_of};
 ghost use Rattle.laws.specs.Openings.{above_new, beside, LabelFor};
 ghost use Rattle.laws.specs.Calls.{place_checks};
+ghost use Rattle.neighbours.specs.Planned.{labels, rows};
 ghost use Rattle.places.specs.Checks.{parent_checks};
-ghost use Rattle.neighbours.specs.Children.{Decides};
 ghost use Rattle.places.specs.Checked.{Checked};
 
 use crate::fault::SheetFault;
 use crate::head::head_label;
 use crate::rows::{is_filled, known_row};
 use gap::between;
-use label::{Word, read};
+use label::Word;
 use laws::Where;
-use neighbours::neighbours;
+use neighbours::{PlannedShelf, parent_of};
 use plan::WidthPlan;
 use shelf::Reading;
-
-// The parent of a label's word; none at level 1, and for a word that is no label's.
-fn parent_of<P: WidthPlan>(plan: &P, label: Word) -> Option<Word>
-    ensures { (labels_of (P.width plan.now) word_bits).parent label ≡ result }
-{
-    match read(plan, label) {
-        Ok(reading) => reading.parent,
-        Err(_) => None,
-    }
-}
 
 // The parent of a new place that is opened at a label: the place of that label, or its parent.
 fn parent_for<P: WidthPlan>(plan: &P, place: Where, label: Word) -> Option<Word>
@@ -42,53 +32,40 @@ fn parent_for<P: WidthPlan>(plan: &P, place: Where, label: Word) -> Option<Word>
 fn is_beside_head<P: WidthPlan>(plan: &P, place: Where, label: Word) -> bool
     ensures { Decides result (T (beside place) × (label ≡ (labels_of (P.width plan.now) word_bits).head)) }
 {
-    match place {
-        Where::FirstUnder | Where::LastUnder => false,
-        Where::Before | Where::After => label == head_label(plan),
-    }
+    matches!(place, Where::Before | Where::After) && label == head_label(plan)
 }
 
 // The parent of a new place, which must be filled.
 fn filled_parent<P: WidthPlan, S: Reading>(
-    plan: &P,
-    shelf: &S,
+    planned: &PlannedShelf<P, S>,
     label: Word,
     place: Where,
 ) -> Result<Word, SheetFault>
-    ensures { Checked (parent_checks (labels_of (P.WidthPlan.width plan.now) word_bits) (S.Reading.rows shelf.now) label place) (λ (p : ℕ). above_new (labels_of (P.WidthPlan.width plan.now) word_bits) place label ≡ Some p) result }
+    ensures { Checked (parent_checks (labels P.WidthPlan planned.now) (rows S.Reading planned.now) label place) (λ (p : ℕ). above_new (labels P.WidthPlan planned.now) place label ≡ Some p) result }
 {
-    known_row(plan, shelf, label)?;
-    if is_beside_head(plan, place, label) {
+    known_row(planned, label)?;
+    if is_beside_head(planned.plan, place, label) {
         return Err(SheetFault::Head);
     }
-    let Some(parent) = parent_for(plan, place, label) else {
-        return Err(SheetFault::Unfilled);
-    };
-    if is_filled(shelf, parent) {
-        Ok(parent)
-    } else {
-        Err(SheetFault::Unfilled)
-    }
+    parent_for(planned.plan, place, label)
+        .filter(|parent| is_filled(planned.shelf, *parent))
+        .ok_or(SheetFault::Unfilled)
 }
 
 // The label of a new place that is opened at a label. Refused where that label is unknown, where the new place would come beside the head, where its parent is not
 // filled, and where no label is left between its neighbours.
 pub fn new_label<P: WidthPlan, S: Reading>(
-    plan: &P,
-    shelf: &S,
+    planned: &PlannedShelf<P, S>,
     label: Word,
     place: Where,
 ) -> Result<Word, SheetFault>
-    ensures { Checked (place_checks (labels_of (P.WidthPlan.width plan.now) word_bits) (S.Reading.rows shelf.now) label place) (λ (x : ℕ). LabelFor (labels_of (P.WidthPlan.width plan.now) word_bits) (S.Reading.rows shelf.now) place label (Some x)) result }
+    ensures { Checked (place_checks (labels P.WidthPlan planned.now) (rows S.Reading planned.now) label place) (λ (x : ℕ). LabelFor (labels P.WidthPlan planned.now) (rows S.Reading planned.now) place label (Some x)) result }
 {
-    let parent = filled_parent(plan, shelf, label, place)?;
-    let (lower, upper) = neighbours(plan, shelf, place, label, parent);
+    let parent = filled_parent(planned, label, place)?;
+    let bounds = planned.neighbours(place, label, parent);
     // The parent's word is a label's, so it can be read.
-    let Ok(choice) = between(plan, parent, lower, upper) else {
+    let Ok(choice) = between(planned.plan, parent, bounds) else {
         unreachable()
     };
-    match choice {
-        Some(new) => Ok(new),
-        None => Err(SheetFault::NoPlace),
-    }
+    choice.ok_or(SheetFault::NoPlace)
 }
