@@ -15,8 +15,8 @@ fn planned(kind: PlanKind, widths: &[u8]) -> Result<AnyPlan, PlanFault>
     ensures { Makes by_either (place_of kind) widths.now result }
 {
     match kind {
-        PlanKind::Position => Ok(AnyPlan::Position(PositionPlan::new(widths)?)),
-        PlanKind::Level => Ok(AnyPlan::Level(LevelPlan::new(widths)?)),
+        PlanKind::Position => PositionPlan::new(widths).map(AnyPlan::Position),
+        PlanKind::Level => LevelPlan::new(widths).map(AnyPlan::Level),
     }
 }
 
@@ -31,8 +31,7 @@ fn ask(plan: &AnyPlan, word: Word) -> Result<Answer, Refusal>
 fn relate(plan: &AnyPlan, first: Word, second: Word) -> Result<Answer, Refusal>
     ensures { Tells plan.now first second result }
 {
-    let relation = label::relate(plan, first, second)?;
-    Ok(Answer::Stands(relation))
+    Ok(Answer::Stands(label::relate(plan, first, second)?))
 }
 
 fn between(
@@ -43,10 +42,7 @@ fn between(
 ) -> Result<Answer, Refusal>
     ensures { Finds plan.now parent lower upper result }
 {
-    let between = gap::between(plan, parent, lower, upper)?;
-    let Some(word) = between else {
-        return Err(Refusal::NoPlace);
-    };
+    let word = gap::between(plan, parent, lower, upper)?.ok_or(Refusal::NoPlace)?;
     let text = take_apart(plan, word)?;
     Ok(Answer::Found(word, text))
 }
@@ -90,13 +86,10 @@ impl Session {
     pub(crate) fn answer_line(&mut self, heap: Global, line: &[u8]) -> Option<Answer>
         ensures { AnswersLine self.old line.now result self.new }
     {
-        match Command::parse(heap, line) {
-            Ok(None) => None,
-            Ok(Some(command)) => match self.carry_out(command) {
-                Ok(answer) => Some(answer),
-                Err(refusal) => Some(Answer::Refused(refusal)),
-            },
-            Err(fault) => Some(Answer::Unreadable(fault)),
-        }
+        let answer = match Command::parse(heap, line).transpose()? {
+            Ok(command) => self.carry_out(command).unwrap_or_else(Answer::Refused),
+            Err(fault) => Answer::Unreadable(fault),
+        };
+        Some(answer)
     }
 }
