@@ -1,3 +1,4 @@
 pub mod Fault
+pub mod Places
 pub mod Plans
 pub mod Widths

@@ -1,28 +1,27 @@
 -- The widths of the plans, by level (from 1) and position (from 0), and what making and setting one answers. Assumes nothing.
-use Rattle.std.specs.Prelude.{◌≡◌, ℕ, ◌-◌, List, Ok, Err, Result}
+use Rattle.std.specs.Prelude.{◌≡◌, ℕ, List, Ok, Err, Result}
 use Rattle.plan.specs.Widths.{served, Proper}
 use Rattle.plan.specs.declared.any.AnyPlan.{AnyPlan}
 use Rattle.plan.specs.declared.any.AnyPlan.TheVariants.{Position, Level}
-use Rattle.plan.specs.declared.by_level.LevelPlan.{LevelPlan}
-use Rattle.plan.specs.declared.by_position.PositionPlan.{PositionPlan}
+use Rattle.plan.specs.declared.axis.ByLevel.{ByLevel}
+use Rattle.plan.specs.declared.axis.ByPosition.{ByPosition}
+use Rattle.plan.specs.declared.list_plan.ListPlan.{ListPlan}
+pub use Rattle.plan.specs.Places.{level_place, position_place}
 use Rattle.plan.specs.declared.fault.PlanFault.{PlanFault}
 
-abbrev pub by_position : PositionPlan → ℕ → ℕ → ℕ
-by_position plan level position = served plan.0.bits position
+-- a plan's widths, each at its place
+abbrev pub by_place : {A : Type 0} → (place : ℕ → ℕ → ℕ) → ListPlan A → ℕ → ℕ → ℕ
+by_place place plan level position = served plan.widths.bits (place level position)
 
-abbrev pub by_level : LevelPlan → ℕ → ℕ → ℕ
-by_level plan level position = served plan.0.bits (level - 1)
+abbrev pub by_position : ListPlan ByPosition → ℕ → ℕ → ℕ
+by_position = by_place position_place
+
+abbrev pub by_level : ListPlan ByLevel → ℕ → ℕ → ℕ
+by_level = by_place level_place
 
 abbrev pub by_either : AnyPlan → ℕ → ℕ → ℕ
 by_either (Position plan) = by_position plan
 by_either (Level plan) = by_level plan
-
--- which place of a list of widths goes with a level and a position
-abbrev pub position_place : ℕ → ℕ → ℕ
-position_place level position = position
-
-abbrev pub level_place : ℕ → ℕ → ℕ
-level_place level position = level - 1
 
 -- a plan has the widths of a list, each at its place
 abbrev pub Has : {P : Type 0} → (P → ℕ → ℕ → ℕ) → (place : ℕ → ℕ → ℕ) → List ℕ → P → Type 0

@@ -2,8 +2,7 @@
 ghost use Rattle.plan.specs.Plans.{by_either};
 ghost use Rattle.std.proofs.Common.{rules};
 
-use crate::by_level::LevelPlan;
-use crate::by_position::PositionPlan;
+use crate::list_plan::{LevelPlan, PositionPlan};
 use crate::width_plan::WidthPlan;
 
 // A position plan or a level plan.

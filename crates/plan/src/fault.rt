@@ -1,6 +1,8 @@
 // Why a plan turns a list of widths down.
-ghost use Rattle.std.specs.Prelude.{◌≡◌};
-ghost use Rattle.plan.specs.Fault.{number_of, name_of};
+ghost use Rattle.std.specs.Prelude.{◌≡◌, Some};
+ghost use Rattle.plan.specs.Fault.{number_of, name_of, written};
+
+use std::fmt;
 
 #[derive(Clone, Copy, PartialEq, Eq, Debug)]
 pub enum PlanFault {
@@ -25,5 +27,14 @@ impl PlanFault {
         match self {
             PlanFault::Unlawful => "PLAN",
         }
+    }
+}
+
+// Shown as the number and the name: `24 PLAN`.
+impl fmt::Display for PlanFault {
+    ghost output = { λ fault. Some (written fault) };
+
+    fn fmt<W: fmt::Write>(&self, f: &mut fmt::Formatter<W>) -> fmt::Result {
+        write!(f, "{} {}", self.number(), self.name())
     }
 }

@@ -2,14 +2,14 @@
 #![tactic(auto)]
 
 mod any;
-mod by_level;
-mod by_position;
+mod axis;
 mod fault;
+mod list_plan;
 mod width_plan;
 mod widths;
 
 pub use any::AnyPlan;
-pub use by_level::LevelPlan;
-pub use by_position::PositionPlan;
+pub use axis::{Axis, ByLevel, ByPosition};
 pub use fault::PlanFault;
+pub use list_plan::{LevelPlan, ListPlan, PositionPlan};
 pub use width_plan::WidthPlan;

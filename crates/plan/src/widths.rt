@@ -1,6 +1,9 @@
 // Lists of widths, whose last one serves all further places.
-ghost use Rattle.std.specs.Prelude.{◌≡◌, ℕ, ◌-◌, ◌<◌, ◌≤◌, min, T, length, slice_index};
+ghost use Rattle.std.specs.Prelude.{◌≡◌, ℕ, ◌-◌, ◌<◌, ◌≤◌, min, T, MatchResult, length, slice_index};
 ghost use Rattle.plan.specs.Widths.{served, Proper};
+
+use crate::fault::PlanFault;
+use std::array;
 
 // Eight widths, the last of which serves all further places. A shorter list is filled up with its last width.
 #[derive(Clone, Copy)]
@@ -12,11 +15,15 @@ pub struct Widths {
 }
 
 impl Widths {
-    // The width that serves the place `i`.
-    pub(crate) fn at(&self, i: usize) -> u32
-        ensures { result ≡ served self.now.bits i }
+    // A list filled up with its last width, if it is lawful.
+    pub(crate) fn new(list: &[u8]) -> Result<Widths, PlanFault>
+        ensures { MatchResult result (λ w. Proper list.now × ((i : ℕ) → served w.bits i ≡ served list.now i)) (λ _. Proper list.now → ⊥) }
     {
-        u32::from(self.bits[i.min(7)])
+        if is_proper(list) {
+            Ok(Widths::filled(list))
+        } else {
+            Err(PlanFault::Unlawful)
+        }
     }
 
     // A lawful list, filled up with its last width.
@@ -25,26 +32,23 @@ impl Widths {
         ensures { (i : ℕ) → served result.bits i ≡ served list.now i }
     {
         let last = list.len() - 1;
-        let mut bits = [1; 8];
-        for i in 0..8 {
-            bits[i] = list[i.min(last)];
+        Widths {
+            bits: array::from_fn(|i| list[i.min(last)]),
         }
-        Widths { bits }
+    }
+
+    // The width that serves the place `i`.
+    pub(crate) fn at(&self, i: usize) -> u32
+        ensures { result ≡ served self.now.bits i }
+    {
+        u32::from(self.bits[i.min(7)])
     }
 }
 
 // Whether a plan takes the list.
-pub(crate) fn is_proper(list: &[u8]) -> bool
+fn is_proper(list: &[u8]) -> bool
     ensures yes { T result → Proper list.now }
     ensures no { Proper list.now → T result }
 {
-    if list.is_empty() || list.len() > 8 {
-        return false;
-    }
-    for w in list {
-        if *w < 1 || *w > 8 {
-            return false;
-        }
-    }
-    true
+    matches!(list.len(), 1..=8) && list.iter().all(|w| matches!(w, 1..=8))
 }

@@ -1,11 +1,12 @@
-use Rattle.std.proofs.Common.{◌<◌, ◌≢◌, length, get_or, ap, arith, length-set, get_or-set_other, get_or-set_same, below_more}
+use Rattle.std.proofs.Common.{rules, ◌-◌, min, length, slice_index_or, arith}
+use Rattle.plan.proofs.Arrays.{element_from_fn}
 use Rattle.plan.proofs.widths.Widths.filled.Goals as goal
 
-pub loop-i-preserved : goal.loop-i-preserved
-loop-i-preserved c =
-    let fits : c.loop-i.i < length c.loop-i.bits = omega (arith, c.loop-i.invariant.0) in (
-      simp length-set c.loop-i.invariant.0,
-      below_more _ _
-          (λ k h. let ne : k ≢ c.loop-i.i = omega arith in rw get_or-set_other (c.loop-i.invariant.1 k h))
-          (rw get_or-set_same (ap (λ i. get_or c.args.list.now i 0) c.min.ensures)),
-    )
+-- the eight widths are what the closure gave, and over 8 the list has none
+pub returns : goal.returns
+returns c i =
+    let list = c.args.list.now in
+    let made = c.from_fn.ensures.items in
+    let at = element_from_fn _ _ (λ k. slice_index_or list (min k (length list - 1)) 0) (λ k y q call. search rules) c.from_fn.result 0 8 made (min i 7) (omega arith) in
+    let long = made.long in
+    search rules
