@@ -9,6 +9,7 @@ use crate::script::fault::LineFault;
 use crate::script::line::{Words, without_comment};
 use crate::script::number::number;
 use crate::script::word::word;
+use gap::Bounds;
 use label::Word;
 use std::alloc::Global;
 
@@ -28,8 +29,8 @@ pub enum Command {
     Ask(Word),
     // How the labels of two words stand to each other.
     Relate(Word, Word),
-    // The label for a new child of the first word, above the second and below the third.
-    Between(Word, Option<Word>, Option<Word>),
+    // The label for a new child of a word, between bounds.
+    Between(Word, Bounds),
 }
 
 // The first word of a command.
@@ -134,7 +135,7 @@ fn between(mut words: Words) -> Result<Command, LineFault>
     let lower = words.bound()?;
     let upper = words.bound()?;
     words.end()?;
-    Ok(Command::Between(parent, lower, upper))
+    Ok(Command::Between(parent, Bounds { lower, upper }))
 }
 
 // The command that a word names.

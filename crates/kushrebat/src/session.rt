@@ -6,6 +6,7 @@ ghost use Rattle.kushrebat.specs.Carrying.{place_of, Chooses, Asks, Tells, Finds
 use crate::answer::{Answer, Refusal};
 use crate::command::{Command, PlanKind};
 use crate::script::fault::LineFault;
+use gap::Bounds;
 use label::{Word, read, take_apart};
 use plan::{AnyPlan, LevelPlan, PlanFault, PositionPlan};
 use std::alloc::Global;
@@ -34,15 +35,10 @@ fn relate(plan: &AnyPlan, first: Word, second: Word) -> Result<Answer, Refusal>
     Ok(Answer::Stands(label::relate(plan, first, second)?))
 }
 
-fn between(
-    plan: &AnyPlan,
-    parent: Word,
-    lower: Option<Word>,
-    upper: Option<Word>,
-) -> Result<Answer, Refusal>
-    ensures { Finds plan.now parent lower upper result }
+fn between(plan: &AnyPlan, parent: Word, bounds: Bounds) -> Result<Answer, Refusal>
+    ensures { Finds plan.now parent bounds.lower bounds.upper result }
 {
-    let word = gap::between(plan, parent, lower, upper)?.ok_or(Refusal::NoPlace)?;
+    let word = gap::between(plan, parent, bounds)?.ok_or(Refusal::NoPlace)?;
     let text = take_apart(plan, word)?;
     Ok(Answer::Found(word, text))
 }
@@ -78,7 +74,7 @@ impl Session {
             Command::Plan(kind, widths) => self.choose(kind, widths.as_slice()),
             Command::Ask(word) => ask(&self.plan, word),
             Command::Relate(first, second) => relate(&self.plan, first, second),
-            Command::Between(parent, lower, upper) => between(&self.plan, parent, lower, upper),
+            Command::Between(parent, bounds) => between(&self.plan, parent, bounds),
         }
     }
 
