@@ -83,11 +83,11 @@ depth_one (down s c) e = absurd (omega (arith, depth_some c))
 
 next_none : (s : ℕ) (o : Option Label) → ◌≡◌ {A = Option Label} (elim o [ None ↦ None | Some p ↦ Some (next s p) ]) None → o ≡ None
 next_none s None e = refl
-next_none s (Some p) e = absurd (let z : ◌≡◌ {A = ℕ} 0 1 = cc in omega arith)
+next_none s (Some p) e = absurd (cc)
 
 down_none : (s : ℕ) (o : Option Label) → ◌≡◌ {A = Option Label} (elim o [ None ↦ Some (end s) | Some p ↦ Some (down s p) ]) None → ⊥
-down_none s None e = let z : ◌≡◌ {A = ℕ} 0 1 = cc in omega arith
-down_none s (Some p) e = let z : ◌≡◌ {A = ℕ} 0 1 = cc in omega arith
+down_none s None e = cc
+down_none s (Some p) e = cc
 
 -- a label with no parent has one level
 pub top_depth : (c : Label) → parent c ≡ None → depth c ≡ 1
@@ -97,12 +97,12 @@ top_depth (down s c) e = absurd (down_none s (parent c) e)
 
 next_some : (s : ℕ) (o : Option Label) (p : Label) → elim o [ None ↦ None | Some q ↦ Some (next s q) ] ≡ Some p
     → (q : Label) × (o ≡ Some q) × (p ≡ next s q)
-next_some s None p e = absurd (let z : ◌≡◌ {A = ℕ} 0 1 = cc in omega arith)
+next_some s None p e = absurd (cc)
 next_some s (Some q) p e = (q, refl, cc)
 
 -- a label is its parent's, with one level more
 pub parent_extends : (c p : Label) → parent c ≡ Some p → (d : Label) × (parent d ≡ None) × (c ≡ extend p d)
-parent_extends (end s) p e = absurd (let z : ◌≡◌ {A = ℕ} 0 1 = cc in omega arith)
+parent_extends (end s) p e = absurd (cc)
 parent_extends (next s c) p e =
     let (q, at, is) = next_some s (parent c) p e in
     let (d, top, it) = parent_extends c q at in

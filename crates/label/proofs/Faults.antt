@@ -1,18 +1,16 @@
 -- Reading stops at a fault exactly where the law of faults says so. Assumes nothing.
-use Rattle.std.proofs.Common.{◌≡◌, ℕ, zero, suc, ◌+◌, ◌-◌, ◌*◌, ◌^◌, ◌<◌, ◌≤◌, Bool, true, false, cond, Ok, Err, Result, sym, refl, ap, ◌∙◌, subst, ⊎_elim, mul-le-mul, arith, pow_pos}
-use Rattle.std.proofs.lemmas.Bool.{cond-true, cond-false, lt-ltb, cases_lt}
+use Rattle.std.proofs.Common.{◌≡◌, ℕ, zero, suc, ◌+◌, ◌-◌, ◌*◌, ◌^◌, ◌<◌, ◌≤◌, Bool, true, false, cond, Some, None, Ok, Err, Option, Result, sym, refl, ap, ◌∙◌, subst, ⊎_elim, mul-le-mul, arith, pow_pos}
+use Rattle.std.proofs.lemmas.Bool.{cond-true, cond-false, lt-ltb, ltb-true, cases_lt}
 use Rattle.label.specs.Label.{Label, end, next, down, may_end}
-use Rattle.label.specs.Reading.{piece, onto, outcome, scan}
+use Rattle.label.specs.Reading.{piece, onto, outcome, outcome_of, scan}
 use Rattle.label.specs.Stops.{Front, start, on, under, FrontGoesOn, front_bits, front_spelled, FrontFits, next_position, next_width, Begins, EndsLevel, Wrong}
 use Rattle.label.specs.declared.piece.Piece.{Piece}
-use Rattle.label.specs.declared.piece.Piece.TheVariants.{Missing, Ends, GoesOn, GoesDown}
 use Rattle.label.specs.declared.fault.LabelFault.{LabelFault}
 use Rattle.label.specs.declared.fault.LabelFault.TheVariants.{Short, Zero}
-use Rattle.label.proofs.Pieces.{Tells, piece_tells, pow_half, in_front, room, piece_end, piece_next, piece_down}
-use Rattle.label.proofs.Words.{start_some}
+use Rattle.label.proofs.Pieces.{Tells, TellsOf, piece_tells, pow_half, in_front, room, piece_end, piece_next, piece_down}
 
 onto_err : (g : Label → Label) (r : Result Label LabelFault) (e : LabelFault) → onto g r ≡ Err e → r ≡ Err e
-onto_err g (Ok c) e h = absurd (let z : ◌≡◌ {A = ℕ} 0 1 = cc in omega arith)
+onto_err g (Ok c) e h = absurd (cc)
 onto_err g (Err f) e h = cc
 
 -- a result that is refused unless a test holds is refused by the test, or itself
@@ -56,7 +54,7 @@ module _ (w : ℕ → ℕ → ℕ) where
   front_some n l s start rest fits going = omega (arith, going)
   front_some n l s (on t f) rest fits going = omega (arith, pow_pos (n - w l 0 - 1))
   front_some n l s (under t f) rest fits going =
-      omega (arith, mul-le-mul (start_some w t fits.0) (pow_pos (n - w l 0)))
+      omega (arith, mul-le-mul (ltb-true 0 t fits.0) (pow_pos (n - w l 0)))
 
   module _ (N : ℕ) where
     -- how reading stops from n bits of value x on, at level l and position i
@@ -129,27 +127,25 @@ module _ (w : ℕ → ℕ → ℕ) where
     ends : (k n s y : ℕ) → k ≤ n → y + y < 2 ^ (n - k) → EndsLevel w k n (s * 2 ^ (n - k) + y) s
     ends k n s y h low = record { enough = h; behind = y; spells = refl; low = low }
 
-    by_piece : (f n x l i : ℕ) (e : LabelFault) → n ≤ N → x < 2 ^ n
+    by_parts : (f n x l i : ℕ) (e : LabelFault) → n ≤ N → x < 2 ^ n
         → ((n x l i : ℕ) (e : LabelFault) → n ≤ N → n < f → x < 2 ^ n → scan w N f n x l i ≡ Err e → StopsFrom n x l i e)
         → n < suc f
-        → (p : Piece) → Tells (w l i) n x p
-        → outcome (N - n) i (λ y. scan w N f (n - w l i - 1) y l (i + 1)) (λ y. scan w N f (n - w l i - 1) y (l + 1) 0) p ≡ Err e
+        → (s : ℕ) (ends_level : Bool) (b : Option ℕ) → TellsOf (w l i) n x s ends_level b
+        → outcome_of (N - n) i (λ y. scan w N f (n - w l i - 1) y l (i + 1)) (λ y. scan w N f (n - w l i - 1) y (l + 1) 0) s ends_level b ≡ Err e
         → StopsFrom n x l i e
-    by_piece f n x l i e most small ih turns Missing t h =
-        let is : Short (N - n) ≡ e = cc in
-        subst (StopsFrom n x l i) is (here n x l i (Short (N - n)) small (refl, t))
-    by_piece f n x l i e most small ih turns (Ends s) t h = go (refused (may_end i s) (Ok (end s)) (Zero (N - n)) e h)
+    by_parts f n x l i e most small ih turns s false None t h = absurd t
+    by_parts f n x l i e most small ih turns s true None t h = go (refused (may_end i s) (Ok (end s)) (Zero (N - n)) e h)
       where
         go : Refused (may_end i s) (Ok (end s)) (Zero (N - n)) e → StopsFrom n x l i e
         go (by_test z is) =
             let e₀ : s * 2 ^ (n - w l i) + 0 ≡ x = omega (arith, t.2) in
             subst (StopsFrom n x l i) is (here n x l i (Zero (N - n)) small (refl, (s, subst (λ (v : ℕ). EndsLevel w (w l i) n v s) e₀ (ends (w l i) n s 0 t.0 (omega (arith, pow_pos (n - w l i)))), z)))
-        go (by_result z is) = absurd (let z : ◌≡◌ {A = ℕ} 0 1 = cc in omega arith)
-    by_piece f n x l i e most small ih turns (GoesOn s y) t h =
+        go (by_result z is) = absurd (cc)
+    by_parts f n x l i e most small ih turns s false (Some y) t h =
         let m : ℕ = n - w l i - 1 in
         let stopped = ih m y l (i + 1) e (omega arith) (omega (arith, t.0)) t.2 (onto_err (next s) (scan w N f m y l (i + 1)) e h) in
         subst (λ (v : ℕ). StopsFrom n v l i e) t.3 (further_on n s y l i e most t.0 t.1 stopped)
-    by_piece f n x l i e most small ih turns (GoesDown s y) t h =
+    by_parts f n x l i e most small ih turns s true (Some y) t h =
         go (refused (may_end i s) (onto (down s) (scan w N f (n - w l i - 1) y (l + 1) 0)) (Zero (N - n)) e h)
       where
         go : Refused (may_end i s) (onto (down s) (scan w N f (n - w l i - 1) y (l + 1) 0)) (Zero (N - n)) e → StopsFrom n x l i e
@@ -168,6 +164,18 @@ module _ (w : ℕ → ℕ → ℕ) where
             let stopped = ih m y (l + 1) 0 e (omega arith) (omega (arith, t.0)) t.2 (onto_err (down s) (scan w N f m y (l + 1) 0) e is) in
             subst (λ (v : ℕ). StopsFrom n v l i e) t.3 (further_under n s y l i e most t.0 z t.1 t.4 stopped)
 
+    by_piece : (f n x l i : ℕ) (e : LabelFault) → n ≤ N → x < 2 ^ n
+        → ((n x l i : ℕ) (e : LabelFault) → n ≤ N → n < f → x < 2 ^ n → scan w N f n x l i ≡ Err e → StopsFrom n x l i e)
+        → n < suc f
+        → (p : Option Piece) → Tells (w l i) n x p
+        → outcome (N - n) i (λ y. scan w N f (n - w l i - 1) y l (i + 1)) (λ y. scan w N f (n - w l i - 1) y (l + 1) 0) p ≡ Err e
+        → StopsFrom n x l i e
+    by_piece f n x l i e most small ih turns None t h =
+        let is : Short (N - n) ≡ e = cc in
+        subst (StopsFrom n x l i) is (here n x l i (Short (N - n)) small (refl, t))
+    by_piece f n x l i e most small ih turns (Some p) t h =
+        by_parts f n x l i e most small ih turns p.subvalue.value p.subvalue.ends_level p.behind t h
+
     -- where reading stops, the law says so
     pub scan_stops : (f n x l i : ℕ) (e : LabelFault) → n ≤ N → n < f → x < 2 ^ n → scan w N f n x l i ≡ Err e → StopsFrom n x l i e
     unfolding scan
@@ -184,7 +192,7 @@ module _ (w : ℕ → ℕ → ℕ) where
         ∙ ⊎_elim none some (cases_lt end_at.behind 1)
         ∙ ap (λ (j : ℕ). Err (Zero j)) (sym is)
       where
-        after : Piece → Result Label LabelFault
+        after : Option Piece → Result Label LabelFault
         after = outcome (N - n) i (λ y. scan w N f (n - w l i - 1) y l (i + 1)) (λ y. scan w N f (n - w l i - 1) y (l + 1) 0)
 
         none : end_at.behind < 1 → after (piece (w l i) n (s * 2 ^ (n - w l i) + end_at.behind)) ≡ Err (Zero (N - n))

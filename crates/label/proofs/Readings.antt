@@ -1,13 +1,13 @@
 -- What the loop of reading has gathered, and that it is the label's reading. Assumes nothing.
-use Rattle.std.proofs.Common.{◌≡◌, ℕ, zero, suc, ◌+◌, ◌-◌, ◌*◌, ◌/◌, ◌^◌, ◌<◌, ◌≤◌, true, false, Some, None, Ok, Err, Option, Result, sym, refl, ap, ◌∙◌, subst, mul_assoc, add-mul, mul-add, arith}
+use Rattle.std.proofs.Common.{◌≡◌, ℕ, zero, suc, ◌+◌, ◌-◌, ◌*◌, ◌/◌, ◌^◌, ◌<◌, ◌≤◌, Bool, true, false, cond, Some, None, Ok, Err, Option, Result, sym, refl, ap, ◌∙◌, subst, mul_assoc, add-mul, mul-add, arith}
 use Rattle.std.proofs.lemmas.Bool.{cond-true, cond-false}
 use lib.Arith.{digits_div}
-use Rattle.label.specs.Label.{Label, end, next, down, may_end, bits, spelled, Fits, depth, parent, word}
-use Rattle.label.specs.Reading.{piece, onto, outcome, scan, label_of, answer}
+use Rattle.label.specs.Label.{Label, end, next, down, stands_at, bits, spelled, Fits, depth, parent, word}
+use Rattle.label.specs.Reading.{piece, onto, outcome, outcome_of, scan, label_of, answer}
+use Rattle.label.specs.Spelling.{level_after, position_after}
 use Rattle.label.specs.declared.fault.LabelFault.{LabelFault}
 use Rattle.label.specs.declared.fault.LabelFault.TheVariants.{Short, Zero}
 use Rattle.label.specs.declared.piece.Piece.{Piece}
-use Rattle.label.specs.declared.piece.Piece.TheVariants.{Missing, Ends, GoesOn, GoesDown}
 use Rattle.label.specs.declared.reading.WordReading.{WordReading}
 use Rattle.label.proofs.Pieces.{pow_apart, pow_half}
 use Rattle.label.proofs.Words.{below, scan_tells}
@@ -50,6 +50,13 @@ made b l p = record { bits = b; level = l; parent = p }
 
 same : (b b' l l' : ℕ) (p p' : Option ℕ) → b ≡ b' → l ≡ l' → p ≡ p' → made b l p ≡ made b' l' p'
 same b b' l l' p p' e f g = cc
+
+-- a subvalue that may not stand is a fault, whatever is behind it
+zero_of : (bit i s : ℕ) (e : Bool) (b : Option ℕ) (on under : ℕ → Result Label LabelFault) → false ≡ stands_at i s e
+    → outcome_of bit i on under s e b ≡ Err (Zero bit)
+zero_of bit i s e None on under z = cond-false (stands_at i s e) _ _ (sym z)
+zero_of bit i s false (Some y) on under z = cond-false (stands_at i s false) _ _ (sym z)
+zero_of bit i s true (Some y) on under z = cond-false (stands_at i s true) _ _ (sym z)
 
 module _ (w : ℕ → ℕ → ℕ) (N x : ℕ) where
   -- what the loop answers when it goes on from n bits left, with p for the parent so far, and the bits left are c's
@@ -101,52 +108,72 @@ module _ (w : ℕ → ℕ → ℕ) (N x : ℕ) where
   turn_down n l i s p (Ok c) = refl
   turn_down n l i s p (Err e) = refl
 
+  -- the rest of the reading, from a subvalue on
+  abbrev by_rest : (f n l i s : ℕ) → Bool → Option ℕ → Result Label LabelFault
+  by_rest f n l i = outcome_of (N - n) i (λ z. scan w N f (n - w l i - 1) z l (i + 1)) (λ z. scan w N f (n - w l i - 1) z (l + 1) 0)
+
+  turn_more : (n l i s : ℕ) (e : Bool) (p : Option ℕ) (f z : ℕ) → true ≡ stands_at i s e
+      → finished n l i p (by_rest f n l i s e (Some z))
+      ≡ finished (n - w l i - 1) (level_after e l) (position_after e i) (cond e (Some (cut x (n - w l i))) p)
+      (scan w N f (n - w l i - 1) z (level_after e l) (position_after e i))
+  turn_more n l i s false p f z stands = turn_next n l i s p (scan w N f (n - w l i - 1) z l (i + 1))
+  turn_more n l i s true p f z stands =
+      ap (finished n l i p) (cond-true (stands_at i s true) _ _ (sym stands)) ∙ turn_down n l i s p (scan w N f (n - w l i - 1) z (l + 1) 0)
+
   -- The loop's invariant: what is left to read, n bits of value y from level l and position i on, finishes the answer.
-  abbrev pub Gathered : (n y l i : ℕ) → Option ℕ → Type 0
-  Gathered n y l i p = (f : ℕ) × (n < f) × (answer w N (label_of w N x) ≡ finished n l i p (scan w N f n y l i))
+  pub record Gathered (n y l i : ℕ) (p : Option ℕ) : Type 0 where
+    pub turns : ℕ
+    pub enough : n < turns
+    pub finishes : answer w N (label_of w N x) ≡ finished n l i p (scan w N turns n y l i)
 
   pub gather_start : x < 2 ^ N → Gathered N x 1 0 None
   unfolding label_of
-  gather_start h = (suc N, omega arith, by_label (label_of w N x) refl h)
+  gather_start h = record { turns = suc N; enough = omega arith; finishes = by_label (label_of w N x) refl h }
 
   -- the rest of the reading, from the piece at which it stands
-  abbrev after : (f n l i : ℕ) → Piece → Result Label LabelFault
+  abbrev after : (f n l i : ℕ) → Option Piece → Result Label LabelFault
   after f n l i = outcome (N - n) i (λ z. scan w N f (n - w l i - 1) z l (i + 1)) (λ z. scan w N f (n - w l i - 1) z (l + 1) 0)
 
-  module _ (n y l i k : ℕ) (p : Option ℕ) (width : k ≡ w l i) (g : Gathered n y l i p) where
+  module _ {n y l i k : ℕ} {p : Option ℕ} (width : k ≡ w l i) (g : Gathered n y l i p) where
     -- a turn, by its piece
-    turn : (q : Piece) → q ≡ piece k n y → (f : ℕ) × (n < suc f) × (answer w N (label_of w N x) ≡ finished n l i p (after f n l i q))
+    turn : (q : Option Piece) → q ≡ piece k n y → (f : ℕ) × (n < suc f) × (answer w N (label_of w N x) ≡ finished n l i p (after f n l i q))
     unfolding scan
-    turn q is = go g.0 g.1 g.2
+    turn q is = go g.turns g.enough g.finishes
       where
         go : (f : ℕ) → n < f → answer w N (label_of w N x) ≡ finished n l i p (scan w N f n y l i)
             → (f : ℕ) × (n < suc f) × (answer w N (label_of w N x) ≡ finished n l i p (after f n l i q))
         go zero h e = absurd (omega arith)
         go (suc f) h e = (f, h, e ∙ ap (λ u. finished n l i p (after f n l i u)) (sym (is ∙ ap (λ (j : ℕ). piece j n y) width)))
 
-    pub gather_missing : Missing ≡ piece k n y → Err (Short (N - n)) ≡ answer w N (label_of w N x)
-    gather_missing is = sym (turn Missing is).2
+    pub gather_missing : None ≡ piece k n y → Err (Short (N - n)) ≡ answer w N (label_of w N x)
+    gather_missing is = sym (turn None is).2
 
-    pub gather_zero_end : (s : ℕ) → false ≡ may_end i s → Ends s ≡ piece k n y → Err (Zero (N - n)) ≡ answer w N (label_of w N x)
-    gather_zero_end s z is = sym ((turn (Ends s) is).2 ∙ ap (finished n l i p) (cond-false (may_end i s) _ _ (sym z)))
+    pub gather_zero : {q : Piece} → Some q ≡ piece k n y → false ≡ stands_at i q.subvalue.value q.subvalue.ends_level
+        → Err (Zero (N - n)) ≡ answer w N (label_of w N x)
+    gather_zero {q} is z =
+        let (f, more, done) = turn (Some q) is in
+        sym (done ∙ ap (finished n l i p) (zero_of (N - n) i q.subvalue.value q.subvalue.ends_level q.behind _ _ z))
 
-    pub gather_zero_down : (s r : ℕ) → false ≡ may_end i s → GoesDown s r ≡ piece k n y → Err (Zero (N - n)) ≡ answer w N (label_of w N x)
-    gather_zero_down s r z is = sym ((turn (GoesDown s r) is).2 ∙ ap (finished n l i p) (cond-false (may_end i s) _ _ (sym z)))
+    pub gather_ends : {q : Piece} → Some q ≡ piece k n y → true ≡ stands_at i q.subvalue.value q.subvalue.ends_level → q.behind ≡ None
+        → Ok (made (N - n + k) l p) ≡ answer w N (label_of w N x)
+    gather_ends {q} is z last =
+        let (f, more, done) = turn (Some q) is in
+        let s : ℕ = q.subvalue.value in
+        let e : Bool = q.subvalue.ends_level in
+        ap (λ (j : ℕ). Ok (made (N - n + j) l p)) width
+        ∙ sym (done ∙ ap (λ (b : Option ℕ). finished n l i p (by_rest f n l i s e b)) last ∙ ap (finished n l i p) (cond-true (stands_at i s e) _ _ (sym z)))
 
-    pub gather_ends : (s : ℕ) → true ≡ may_end i s → Ends s ≡ piece k n y → Ok (made (N - n + k) l p) ≡ answer w N (label_of w N x)
-    gather_ends s z is =
-        ap (λ (j : ℕ). Ok (made (N - n + j) l p)) width ∙ sym ((turn (Ends s) is).2 ∙ ap (finished n l i p) (cond-true (may_end i s) _ _ (sym z)))
-
-    pub gather_next : (s z m : ℕ) → k < n → m ≡ n - k - 1 → GoesOn s z ≡ piece k n y → Gathered m z l (i + 1) p
-    gather_next s z m h e is =
-        let (f, more, done) = turn (GoesOn s z) is in
-        subst (λ (j : ℕ). Gathered j z l (i + 1) p) (omega (arith, width))
-        (f, omega (arith, width), done ∙ turn_next n l i s p (scan w N f (n - w l i - 1) z l (i + 1)))
-
-    pub gather_down : (s z m b : ℕ) → true ≡ may_end i s → k < n → m ≡ n - k - 1 → b ≡ cut x (n - k) → GoesDown s z ≡ piece k n y → Gathered m z (l + 1) 0 (Some b)
-    gather_down s z m b ending h e parent_is is =
-        let (f, more, done) = turn (GoesDown s z) is in
-        let above_is : cut x (n - w l i) ≡ b = ap (λ (j : ℕ). cut x (n - j)) (sym width) ∙ sym parent_is in
-        subst (λ (j : ℕ). Gathered m z (l + 1) 0 (Some j)) above_is
-        (subst (λ (j : ℕ). Gathered j z (l + 1) 0 (Some (cut x (n - w l i)))) (omega (arith, width))
-        (f, omega (arith, width), done ∙ ap (finished n l i p) (cond-true (may_end i s) _ _ (sym ending)) ∙ turn_down n l i s p (scan w N f (n - w l i - 1) z (l + 1) 0)))
+    pub gather_more : {q : Piece} {z m v deep along : ℕ} {p' : Option ℕ} → Some q ≡ piece k n y → true ≡ stands_at i q.subvalue.value q.subvalue.ends_level
+        → q.behind ≡ Some z → k < n
+        → m ≡ n - k - 1 → v ≡ z → deep ≡ level_after q.subvalue.ends_level l → along ≡ position_after q.subvalue.ends_level i
+        → p' ≡ cond q.subvalue.ends_level (Some (cut x (n - k))) p
+        → Gathered m v deep along p'
+    gather_more {q} {z} {m} {v} {deep} {along} {p'} is stands at h less rest_is deep_is along_is parent_now =
+        let (f, more, done) = turn (Some q) is in
+        let s : ℕ = q.subvalue.value in
+        let e : Bool = q.subvalue.ends_level in
+        let same : answer w N (label_of w N x) ≡ finished n l i p (by_rest f n l i s e (Some z)) =
+        done ∙ ap (λ (b : Option ℕ). finished n l i p (by_rest f n l i s e b)) at in
+        rw (less, rest_is, deep_is, along_is, parent_now)
+        (subst (λ (j : ℕ). Gathered (n - j - 1) z (level_after e l) (position_after e i) (cond e (Some (cut x (n - j))) p)) (sym width)
+        (record { turns = f; enough = omega (arith, width); finishes = same ∙ turn_more n l i s e p f z stands }))

@@ -67,7 +67,7 @@ module _ (w : ℕ → ℕ → ℕ) (N : ℕ) where
 
       never : (c : Label) (e : LabelFault) → Of w N c x → Stops w N x e → ⊥
       never c e of stopped =
-          let u = read_back c x of in let v = stop_back x e stopped in let z : ◌≡◌ {A = ℕ} 0 1 = cc in omega arith
+          let u = read_back c x of in let v = stop_back x e stopped in cc
 
       once : (e f : LabelFault) → Stops w N x e → Stops w N x f → e ≡ f
       once e f p q = let u = stop_back x e p in let v = stop_back x f q in cc

@@ -1,5 +1,5 @@
 -- The refusals of a word: their numbers, their names, and the bit that each carries. Assumes nothing.
-use Rattle.std.specs.Prelude.{ℕ, List, codes}
+use Rattle.std.specs.Prelude.{ℕ, List, ◌++◌, codes, decimal}
 use Rattle.label.specs.declared.fault.LabelFault.{LabelFault}
 use Rattle.label.specs.declared.fault.LabelFault.TheVariants.{Short, Zero}
 
@@ -15,3 +15,7 @@ name_of (Zero bit) = codes "ZERO"
 abbrev pub bit_of : LabelFault → ℕ
 bit_of (Short bit) = bit
 bit_of (Zero bit) = bit
+
+-- the text of a refusal, as its ASCII bytes: `1 SHORT bit 3`
+abbrev pub text_of : LabelFault → List ℕ
+text_of fault = decimal (number_of fault) ++ (codes " " ++ (name_of fault ++ (codes " bit " ++ decimal (bit_of fault))))

@@ -1,34 +1,49 @@
 -- How a word is read. Assumes nothing.
-use Rattle.std.specs.Prelude.{ℕ, zero, suc, ◌+◌, ◌-◌, ◌/◌, ◌%◌, ◌^◌, cond, Some, None, Ok, Err, Result, ◌==◌, nat_lt}
-use Rattle.label.specs.Label.{Label, end, next, down, may_end, bits, depth, parent, word}
+use Rattle.std.specs.Prelude.{ℕ, zero, suc, ◌+◌, ◌-◌, ◌/◌, ◌%◌, ◌^◌, Bool, true, false, cond, Some, None, Ok, Err, Option, Result, ◌==◌, nat_lt}
+use Rattle.label.specs.Label.{Label, end, next, down, stands_at, bits, depth, parent, word}
 use Rattle.label.specs.declared.reading.WordReading.{WordReading}
 use Rattle.label.specs.declared.piece.Piece.{Piece}
-use Rattle.label.specs.declared.piece.Piece.TheVariants.{Missing, Ends, GoesOn, GoesDown}
 use Rattle.label.specs.declared.fault.LabelFault.{LabelFault}
 use Rattle.label.specs.declared.fault.LabelFault.TheVariants.{Short, Zero}
 
+-- The pieces: a subvalue that ends the label; one with a separator 1 and `behind` in the bits behind that, where its level goes on;
+-- and one with a separator 0 before a deeper level.
+abbrev pub ending : (s : ℕ) → Piece
+ending s = record { subvalue = record { value = s; ends_level = true }; behind = None }
+
+abbrev pub going_on : (s behind : ℕ) → Piece
+going_on s behind = record { subvalue = record { value = s; ends_level = false }; behind = Some behind }
+
+abbrev pub going_down : (s behind : ℕ) → Piece
+going_down s behind = record { subvalue = record { value = s; ends_level = true }; behind = Some behind }
+
 -- the piece with subvalue s and `behind` in the bits behind it, of which the first is worth `one`
 abbrev pub piece_of : (one s behind : ℕ) → Piece
-piece_of one s behind = cond (behind == 0) (Ends s) (cond (nat_lt behind one) (GoesDown s behind) (GoesOn s (behind - one)))
+piece_of one s behind = cond (behind == 0) (ending s) (cond (nat_lt behind one) (going_down s behind) (going_on s (behind - one)))
 
--- the first piece, with a subvalue of k bits, of n bits of value x
-abbrev pub piece : (k n x : ℕ) → Piece
-piece k n x = cond (nat_lt n k) Missing (piece_of (2 ^ (n - k - 1)) (x / 2 ^ (n - k)) (x % 2 ^ (n - k)))
+-- the first piece, with a subvalue of k bits, of n bits of value x; none where there are fewer bits
+abbrev pub piece : (k n x : ℕ) → Option Piece
+piece k n x = cond (nat_lt n k) None (Some (piece_of (2 ^ (n - k - 1)) (x / 2 ^ (n - k)) (x % 2 ^ (n - k))))
 
 abbrev pub onto : (Label → Label) → Result Label LabelFault → Result Label LabelFault
 onto f (Ok c) = Ok (f c)
 onto f (Err e) = Err e
 
--- a subvalue s at position i that ends its level, at a bit
-abbrev pub closed : (bit i s : ℕ) → Result Label LabelFault → Result Label LabelFault
-closed bit i s r = cond (may_end i s) r (Err (Zero bit))
+-- a subvalue s at position i and at a bit, by whether it ends its level: it may stand there, or it is a fault
+abbrev pub placed : (bit i s : ℕ) (ends : Bool) → Result Label LabelFault → Result Label LabelFault
+placed bit i s ends r = cond (stands_at i s ends) r (Err (Zero bit))
 
--- what a piece at a bit and a position comes to, where `on` reads what is behind a 1 and `under` what is behind a 0
-abbrev pub outcome : (bit i : ℕ) → (on under : ℕ → Result Label LabelFault) → Piece → Result Label LabelFault
-outcome bit i on under Missing = Err (Short bit)
-outcome bit i on under (Ends s) = closed bit i s (Ok (end s))
-outcome bit i on under (GoesOn s y) = onto (next s) (on y)
-outcome bit i on under (GoesDown s y) = closed bit i s (onto (down s) (under y))
+-- what a subvalue s at a bit and a position comes to, by whether it ends its level and by the value behind its separator, if any,
+-- where `on` reads what is behind a 1 and `under` what is behind a 0
+abbrev pub outcome_of : (bit i : ℕ) → (on under : ℕ → Result Label LabelFault) → (s : ℕ) → Bool → Option ℕ → Result Label LabelFault
+outcome_of bit i on under s ends None = placed bit i s ends (Ok (end s))
+outcome_of bit i on under s false (Some y) = placed bit i s false (onto (next s) (on y))
+outcome_of bit i on under s true (Some y) = placed bit i s true (onto (down s) (under y))
+
+-- what a piece comes to; with none, there are too few bits
+abbrev pub outcome : (bit i : ℕ) → (on under : ℕ → Result Label LabelFault) → Option Piece → Result Label LabelFault
+outcome bit i on under None = Err (Short bit)
+outcome bit i on under (Some p) = outcome_of bit i on under p.subvalue.value p.subvalue.ends_level p.behind
 
 module _ (w : ℕ → ℕ → ℕ) (N : ℕ) where
   -- Reads the n bits of value x that are left of a word of N bits, from level l and position i on.

@@ -1,6 +1,6 @@
 -- Labels as lists of subvalues, each with whether it ends its level, and what writing such a list answers. Assumes nothing.
 use Rattle.std.specs.Prelude.{◌≡◌, ℕ, ◌+◌, ◌-◌, ◌*◌, ◌^◌, ◌<◌, ◌≤◌, Bool, true, false, cond, List, [], ◌∷◌, Some, None, Option, ◌≢◌}
-use Rattle.label.specs.Label.{Label, end, next, down, may_end, bits, spelled, Fits}
+use Rattle.label.specs.Label.{Label, end, next, down, stands_at, bits, spelled, Fits}
 use Rattle.label.specs.Theorems.{Of}
 use Rattle.label.specs.declared.subvalue.Subvalue.{Subvalue}
 
@@ -29,10 +29,6 @@ position_after ends i = cond ends 0 (i + 1)
 
 abbrev pub separator_after : Bool → ℕ → ℕ
 separator_after ends m = cond ends 0 (2 ^ m)
-
--- a subvalue s at position i may end its level, if it does
-abbrev pub stands_at : (i s : ℕ) (ends : Bool) → Bool
-stands_at i s ends = cond ends (may_end i s) true
 
 -- a subvalue s of k bits at position i, at the left of n bits with zeros behind it, where it fits and may stand there
 abbrev pub Places : (k n i s : ℕ) (ends : Bool) → Option ℕ → Type 0

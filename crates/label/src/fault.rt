@@ -1,6 +1,8 @@
 // Why a word is no label's.
-ghost use Rattle.std.specs.Prelude.{◌≡◌};
-ghost use Rattle.label.specs.Fault.{number_of, name_of, bit_of};
+ghost use Rattle.std.specs.Prelude.{◌≡◌, Some};
+ghost use Rattle.label.specs.Fault.{number_of, name_of, bit_of, text_of};
+
+use std::fmt;
 
 // The fault at which the reading of a word stops, with the first bit of the subvalue that it stops at.
 #[derive(Clone, Copy, PartialEq, Eq, Debug)]
@@ -37,8 +39,16 @@ impl LabelFault {
         ensures { result ≡ bit_of self.now }
     {
         match self {
-            LabelFault::Short(bit) => *bit,
-            LabelFault::Zero(bit) => *bit,
+            LabelFault::Short(bit) | LabelFault::Zero(bit) => *bit,
         }
+    }
+}
+
+// Shown by its number, its name and the bit: `1 SHORT bit 3`.
+impl fmt::Display for LabelFault {
+    ghost output = { λ fault. Some (text_of fault) };
+
+    fn fmt<W: fmt::Write>(&self, f: &mut fmt::Formatter<W>) -> fmt::Result {
+        write!(f, "{} {} bit {}", self.number(), self.name(), self.bit())
     }
 }

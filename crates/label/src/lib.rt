@@ -1,12 +1,15 @@
 // Labels of places in a tree: their words, reading and writing them, and the order in which they are read.
 #![tactic(auto)]
 
+mod cursor;
 mod fault;
 mod leading;
 mod piece;
+mod prefix;
 mod reading;
 mod relation;
 mod spelling;
+mod spot;
 mod subvalue;
 mod taking_apart;
 mod word;

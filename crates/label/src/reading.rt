@@ -1,12 +1,13 @@
 // Words of labels: reading them.
-ghost use Rattle.std.specs.Prelude.{◌≡◌, ℕ, ◌+◌, ◌-◌, ◌*◌, ◌/◌, ◌%◌, ◌^◌, ◌<◌, ◌≤◌, IfOk};
-ghost use Rattle.label.specs.Label.{word_bits, may_end};
+ghost use Rattle.std.specs.Prelude.{◌≡◌, ◌≤◌, IfOk};
+ghost use Rattle.label.specs.Label.{word_bits};
 ghost use Rattle.label.specs.Reading.{label_of, answer};
 ghost use Rattle.label.specs.Theorems.{Reads};
 
+use crate::cursor::Cursor;
 use crate::fault::LabelFault;
-use crate::piece::{Piece, first_piece, may_close};
-use crate::word::{WORD_BITS, Word};
+use crate::prefix::Prefix;
+use crate::word::Word;
 use plan::WidthPlan;
 
 // What reading a word tells of its label: its bit length, its level (the number of its levels), and its parent's word, or none at level 1.
@@ -17,54 +18,30 @@ pub struct WordReading {
     pub parent: Option<Word>,
 }
 
-// The word with zeros behind its first `bits` bits.
-fn front(word: Word, bits: u32) -> Word
-    requires { (1 ≤ bits) × (bits ≤ word_bits) }
-    ensures { result ≡ word / 2 ^ (word_bits - bits) * 2 ^ (word_bits - bits) }
-{
-    let behind = WORD_BITS - bits;
-    word >> behind << behind
-}
-
 // Reads a word piece by piece, from bit 0 on.
 fn read_pieces<P: WidthPlan>(plan: &P, word: Word) -> Result<WordReading, LabelFault>
     ensures { result ≡ answer (P.width plan.now) word_bits (label_of (P.width plan.now) word_bits word) }
 {
-    let mut left = WORD_BITS;
-    let mut rest = word;
-    let mut level = 1;
-    let mut position = 0;
+    let mut cursor = Cursor::start(word);
     let mut parent = None;
     'pieces: loop {
-        let width = plan.width(level, position);
-        let first = WORD_BITS - left;
-        match first_piece(width, left, rest) {
-            Piece::Missing => return Err(LabelFault::Short(first)),
-            Piece::Ends(s) => {
-                if !may_close(position, s) {
-                    return Err(LabelFault::Zero(first));
-                }
-                return Ok(WordReading {
-                    bits: first + width,
-                    level,
-                    parent,
-                });
-            }
-            Piece::GoesOn(_, behind) => {
-                position += 1;
-                left -= width + 1;
-                rest = behind;
-            }
-            Piece::GoesDown(s, behind) => {
-                if !may_close(position, s) {
-                    return Err(LabelFault::Zero(first));
-                }
-                parent = Some(front(word, first + width));
-                level += 1;
-                position = 0;
-                left -= width + 1;
-                rest = behind;
-            }
+        let spot = cursor.spot;
+        let width = spot.width(plan);
+        let piece = cursor.piece(width).ok_or(LabelFault::Short(spot.bit()))?;
+        if !piece.subvalue.may_stand() {
+            return Err(LabelFault::Zero(spot.bit()));
+        }
+        let bits = spot.bit() + width;
+        let Some(rest) = piece.behind else {
+            return Ok(WordReading {
+                bits,
+                level: spot.level,
+                parent,
+            });
+        };
+        cursor = cursor.behind(width, piece.subvalue.ends_level, rest);
+        if piece.subvalue.ends_level {
+            parent = Some(Prefix { word, bits }.padded());
         }
     }
 }

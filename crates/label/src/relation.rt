@@ -1,14 +1,16 @@
 // How the labels of two words stand to each other.
-ghost use Rattle.std.specs.Prelude.{◌≡◌, ℕ, ◌-◌, ◌/◌, ◌%◌, ◌^◌, ◌<◌, ◌≤◌};
+ghost use Rattle.std.specs.Prelude.{ℕ, Some};
 ghost use Rattle.label.specs.Label.{word_bits};
 ghost use Rattle.label.specs.Order.{LabelsAreLevels};
-ghost use Rattle.label.specs.Relation.{leads, relation_of};
+ghost use Rattle.label.specs.Relation.{text_of};
 ghost use Rattle.label.specs.Theorems.{Relates, OneLabel, OneOutcome, ReadingIs, LeadsByLevels, WordsInOrder, LedBetween};
 
 use crate::fault::LabelFault;
+use crate::prefix::Prefix;
 use crate::reading::read;
-use crate::word::{WORD_BITS, Word};
+use crate::word::Word;
 use plan::WidthPlan;
+use std::fmt;
 
 // The first label against the second.
 #[derive(Clone, Copy, PartialEq, Eq, Debug)]
@@ -23,31 +25,18 @@ pub enum Relation {
     After,
 }
 
-// Whether a label with `a_bits` bits leads one with `b_bits`: the second has more bits, begins with the first's, and its next bit is 0.
-fn is_led(a: Word, a_bits: u32, b: Word, b_bits: u32) -> bool
-    requires { (1 ≤ a_bits) × (b_bits ≤ word_bits) }
-    ensures { result ≡ leads word_bits a_bits b_bits a b }
-{
-    a_bits < b_bits
-        && b >> (WORD_BITS - a_bits) == a >> (WORD_BITS - a_bits)
-        && (b >> (WORD_BITS - 1 - a_bits)) % 2 == 0
-}
+// Shown as one word.
+impl fmt::Display for Relation {
+    ghost output = { λ relation. Some (text_of relation) };
 
-// The relation of two words of labels with so many bits.
-fn relation_of(a: Word, a_bits: u32, b: Word, b_bits: u32) -> Relation
-    requires { (1 ≤ a_bits) × (a_bits ≤ word_bits) × (1 ≤ b_bits) × (b_bits ≤ word_bits) }
-    ensures { result ≡ relation_of word_bits a_bits b_bits a b }
-{
-    if a == b {
-        Relation::Same
-    } else if is_led(a, a_bits, b, b_bits) {
-        Relation::Above
-    } else if is_led(b, b_bits, a, a_bits) {
-        Relation::Below
-    } else if a < b {
-        Relation::Before
-    } else {
-        Relation::After
+    fn fmt<W: fmt::Write>(&self, f: &mut fmt::Formatter<W>) -> fmt::Result {
+        f.write_str(match self {
+            Relation::Same => "same",
+            Relation::Above => "above",
+            Relation::Below => "below",
+            Relation::Before => "before",
+            Relation::After => "after",
+        })
     }
 }
 
@@ -57,7 +46,15 @@ pub fn relate<P: WidthPlan>(plan: &P, a: Word, b: Word) -> Result<Relation, Labe
 {
     let first = read(plan, a)?;
     let second = read(plan, b)?;
-    Ok(relation_of(a, first.bits, b, second.bits))
+    let first = Prefix {
+        word: a,
+        bits: first.bits,
+    };
+    let second = Prefix {
+        word: b,
+        bits: second.bits,
+    };
+    Ok(first.relation_to(second))
 }
 
 // For all widths and any number of bits: labels are the lists of levels that have a level and no empty one; two words are equal exactly for equal labels; a word is a lawful label's or

@@ -1,55 +1,58 @@
-use Rattle.std.proofs.Common.{◌≡◌, ℕ, ◌+◌, ◌-◌, ◌^◌, ◌<◌, sym, ap, ◌∙◌, subst, arith}
+use Rattle.std.proofs.Common.{◌≡◌, ℕ, ◌+◌, ◌-◌, None, Some, Option, sym, ap, ◌∙◌, arith}
+use Rattle.std.proofs.lemmas.Bool.{cond-true, cond-false}
+use Rattle.std.proofs.lemmas.Result.{err_from_is_err_and}
+use Rattle.std.specs.Option.{ok_or}
+use Rattle.label.specs.declared.fault.LabelFault.TheVariants.{Short}
+use Rattle.label.specs.declared.piece.Piece.{Piece}
 use Rattle.label.specs.Label.{word_bits}
-use Rattle.label.proofs.Pieces.{tells_of}
-use Rattle.label.proofs.Readings.{cut, gather_start, gather_missing, gather_zero_end, gather_zero_down, gather_ends, gather_next, gather_down}
+use Rattle.label.proofs.Pieces.{behind_fits}
+use Rattle.label.proofs.Readings.{cut, gather_start, gather_missing, gather_zero, gather_ends, gather_more}
 use Rattle.label.proofs.reading.read_pieces.Goals as goal
 
 pub pieces-init : goal.pieces-init
 pieces-init g c =
-    let fits : c.args.word < 2 ^ word_bits = c.ranges.word.fits in
-    (omega arith, fits, omega arith, omega arith, gather_start (g.P.WidthPlan.width c.args.plan.now) word_bits c.args.word fits)
+    rw (c.start-cursor.ensures.left, c.start-cursor.ensures.rest, c.start-cursor.ensures.place.0, c.start-cursor.ensures.place.1)
+    (gather_start (g.P.WidthPlan.width c.args.plan.now) word_bits c.args.word c.ranges.word.fits)
 
-pub returns-in-Missing : goal.returns-in-Missing
-returns-in-Missing g c = gather_missing _ word_bits _ _ _ _ _ _ _ c.width-width.ensures c.pieces.invariant.4 c.in-Missing.ensures
+pub returns-in_err-piece : goal.returns-in_err-piece
+returns-in_err-piece g c =
+    let none : None ≡ c.piece.result = sym c.in_err-piece.ensures.ok_part in
+    let is = gather_missing _ word_bits _ c.width-width.ensures.is c.pieces.invariant (none ∙ c.piece.ensures) in
+    let failed = err_from_is_err_and c.from_residual.result c.from_residual.ensures.1 in
+    let short = c.in_err-piece.ensures.value ∙ ap (λ (o : Option Piece). ok_or o (Short c.bit.result)) (sym none) in
+    let fault : c.in_err-piece.field-0.0 ≡ Short (word_bits - c.pieces.cursor.spot.left) = cc (short, c.bit.ensures) in
+    rw (failed.1, failed.2, fault) is
 
-pub returns-then-not-may_close : goal.returns-then-not-may_close
-returns-then-not-may_close g c =
-    gather_zero_end _ word_bits _ _ _ _ _ _ _ c.width-width.ensures c.pieces.invariant.4 _ c.if-not-may_close.ensures c.in-Ends.ensures
+pub returns-then-not-may_stand : goal.returns-then-not-may_stand
+returns-then-not-may_stand g c =
+    let is = gather_zero _ word_bits _ c.width-width.ensures.is c.pieces.invariant (sym c.in_ok-piece.ensures.ok_part ∙ c.piece.ensures) (c.if-not-may_stand.ensures c.pieces.cursor.spot.position) in
+    cc (c.bit-then-not-may_stand.ensures)
 
-pub returns-in-Ends : goal.returns-in-Ends
-returns-in-Ends g c =
-    gather_ends _ word_bits _ _ _ _ _ _ _ c.width-width.ensures c.pieces.invariant.4 _ c.if-not-may_close.ensures c.in-Ends.ensures
+pub returns-in_default : goal.returns-in_default
+returns-in_default g c =
+    let is = gather_ends _ word_bits _ c.width-width.ensures.is c.pieces.invariant (sym c.in_ok-piece.ensures.ok_part ∙ c.piece.ensures) (c.if-not-may_stand.ensures c.pieces.cursor.spot.position) c.in_default.is in
+    cc (c.bit-in-pieces.ensures)
 
-pub returns-then-not-may_close-2 : goal.returns-then-not-may_close-2
-returns-then-not-may_close-2 g c =
-    gather_zero_down _ word_bits _ _ _ _ _ _ _ c.width-width.ensures c.pieces.invariant.4 _ _ c.if-not-may_close-2.ensures c.in-GoesDown.ensures
+pub behind-cursor-requires : goal.behind-cursor-requires
+behind-cursor-requires g c =
+    behind_fits c.pieces.cursor.small
+    (sym c.in_ok-piece.ensures.ok_part ∙ c.piece.ensures) c.in-Some.is
 
-pub pieces-preserved-in-GoesOn : goal.pieces-preserved-in-GoesOn
-pieces-preserved-in-GoesOn g c =
+pub pieces-preserved-then-piece : goal.pieces-preserved-then-piece
+pieces-preserved-then-piece g c =
     let k : ℕ = c.width-width.result in
-    let n : ℕ = c.pieces.left in
-    let is = c.in-GoesOn.ensures in
-    let t = tells_of k n _ _ c.pieces.invariant.1 is in
-    let m : n - (k + 1) ≡ n - k - 1 = omega arith in (
-      omega arith,
-      subst (λ (j : ℕ). c.in-GoesOn.behind < 2 ^ j) (sym m) t.2,
-      omega (arith, t.0),
-      omega (arith, t.0),
-      gather_next _ word_bits _ _ _ _ _ _ _ c.width-width.ensures c.pieces.invariant.4 _ _ _ t.0 m is,
-    )
+    let n : ℕ = c.pieces.cursor.spot.left in
+    let at = sym c.in_ok-piece.ensures.ok_part ∙ c.piece.ensures in
+    let fits = behind_fits c.pieces.cursor.small at c.in-Some.is in
+    let behind : word_bits - (c.bit-in-pieces.result + k) ≡ n - k = omega (arith, fits.0, c.bit-in-pieces.ensures, c.pieces.cursor.spot.within) in
+    gather_more _ word_bits _ c.width-width.ensures.is c.pieces.invariant at (c.if-not-may_stand.ensures c.pieces.cursor.spot.position) c.in-Some.is fits.0
+    c.behind-cursor.ensures.left c.behind-cursor.ensures.rest c.behind-cursor.ensures.level c.behind-cursor.ensures.position
+    (ap Some (c.padded.ensures ∙ ap (cut c.args.word) behind) ∙ sym (cond-true _ _ _ c.if-piece.true))
 
 pub pieces-preserved : goal.pieces-preserved
 pieces-preserved g c =
-    let k : ℕ = c.width-width.result in
-    let n : ℕ = c.pieces.left in
-    let is = c.in-GoesDown.ensures in
-    let t = tells_of k n _ _ c.pieces.invariant.1 is in
-    let m : n - (k + 1) ≡ n - k - 1 = omega arith in
-    let at : word_bits - (word_bits - n + k) ≡ n - k = omega (arith, t.0) in (
-      omega arith,
-      subst (λ (j : ℕ). c.in-GoesDown.behind < 2 ^ j) (sym m) t.2,
-      omega (arith, t.0),
-      omega (arith, t.0),
-      gather_down _ word_bits _ _ _ _ _ _ _ c.width-width.ensures c.pieces.invariant.4 _ _ _ _ c.if-not-may_close-2.ensures t.0 m
-          (c.front.ensures ∙ ap (cut c.args.word) at) is,
-    )
+    let at = sym c.in_ok-piece.ensures.ok_part ∙ c.piece.ensures in
+    let fits = behind_fits c.pieces.cursor.small at c.in-Some.is in
+    gather_more _ word_bits _ c.width-width.ensures.is c.pieces.invariant at (c.if-not-may_stand.ensures c.pieces.cursor.spot.position) c.in-Some.is fits.0
+    c.behind-cursor.ensures.left c.behind-cursor.ensures.rest c.behind-cursor.ensures.level c.behind-cursor.ensures.position
+    (sym (cond-false _ _ _ c.if-piece.false))

@@ -1,55 +1,26 @@
-use Rattle.std.proofs.Common.{◌≡◌, ℕ, ◌+◌, ◌-◌, ◌≤◌, ◌∙◌, arith}
+use Rattle.std.proofs.Common.{◌∙◌, arith}
 use Rattle.label.specs.Label.{word_bits}
-use Rattle.label.proofs.Apart.{taken_missing, taken_small, taken_room_on, taken_room_down, taken_ends, taken_next, taken_down}
+use Rattle.label.proofs.Pieces.{behind_fits}
+use Rattle.label.proofs.Apart.{taken_none, taken_ends, taken_more}
 use Rattle.label.proofs.taking_apart.subvalues.Goals as goal
 
-pub returns-in-Missing : goal.returns-in-Missing
-returns-in-Missing g c = absurd (taken_missing _ word_bits _ _ _ _ _ _ _ c.width-width.ensures c.pieces.invariant.4 c.in-Missing.ensures)
+pub returns-in_default : goal.returns-in_default
+returns-in_default g c = absurd (taken_none _ word_bits _ c.width-width.ensures.is c.pieces.invariant.1 c.in_default.ensures)
 
-pub subvalue-requires : goal.subvalue-requires
-subvalue-requires g c =
-    taken_small _ word_bits _ _ _ _ _ _ _ c.width-width.ensures c.pieces.invariant.4
-    (g.met.P.WidthPlan.high c.args.plan.now c.pieces.level c.pieces.position) _ c.in-Ends.ensures
+pub returns-in_default-behind : goal.returns-in_default-behind
+returns-in_default-behind g c = λ d of.
+    c.push.ensures.list ∙ taken_ends _ word_bits _ c.width-width.ensures.is c.pieces.invariant.1 d c.in-Some.ensures c.in_default-behind.is of
 
-pub returns-in-Ends : goal.returns-in-Ends
-returns-in-Ends g c = λ d of.
-    c.push.ensures.list
-    ∙ taken_ends _ word_bits _ _ _ _ _ _ _ c.width-width.ensures c.pieces.invariant.4 _ _ d c.in-Ends.ensures c.subvalue.ensures of
-
-pub subvalue-requires-in-GoesOn : goal.subvalue-requires-in-GoesOn
-subvalue-requires-in-GoesOn g c =
-    taken_small _ word_bits _ _ _ _ _ _ _ c.width-width.ensures c.pieces.invariant.4
-    (g.met.P.WidthPlan.high c.args.plan.now c.pieces.level c.pieces.position) _ c.in-GoesOn.ensures
-
-pub pieces-preserved-in-GoesOn : goal.pieces-preserved-in-GoesOn
-pieces-preserved-in-GoesOn g c =
-    let k : ℕ = c.width-width.result in
-    let n : ℕ = c.pieces.left in
-    let room = taken_room_on _ word_bits _ _ _ _ _ _ _ c.width-width.ensures c.pieces.invariant.4 _ _ c.in-GoesOn.ensures in
-    let low : 1 ≤ k = omega (arith, c.width-width.ensures, g.met.P.WidthPlan.low c.args.plan.now c.pieces.level c.pieces.position) in
-    let m : n - (k + 1) ≡ n - k - 1 = omega arith in (
-      omega (arith, room),
-      omega (arith, room),
-      omega (arith, room),
-      omega (arith, room, c.push-in-GoesOn.ensures.count, low),
-      taken_next _ word_bits _ _ _ _ _ _ _ c.width-width.ensures c.pieces.invariant.4 _ _ _ _ _ c.in-GoesOn.ensures c.subvalue-in-GoesOn.ensures c.push-in-GoesOn.ensures.list m,
-    )
-
-pub subvalue-requires-in-GoesDown : goal.subvalue-requires-in-GoesDown
-subvalue-requires-in-GoesDown g c =
-    taken_small _ word_bits _ _ _ _ _ _ _ c.width-width.ensures c.pieces.invariant.4
-    (g.met.P.WidthPlan.high c.args.plan.now c.pieces.level c.pieces.position) _ c.in-GoesDown.ensures
+pub behind-cursor-requires : goal.behind-cursor-requires
+behind-cursor-requires g c =
+    behind_fits c.pieces.cursor.small
+    c.in-Some.ensures c.in-Some-behind.is
 
 pub pieces-preserved : goal.pieces-preserved
 pieces-preserved g c =
-    let k : ℕ = c.width-width.result in
-    let n : ℕ = c.pieces.left in
-    let room = taken_room_down _ word_bits _ _ _ _ _ _ _ c.width-width.ensures c.pieces.invariant.4 _ _ c.in-GoesDown.ensures in
-    let low : 1 ≤ k = omega (arith, c.width-width.ensures, g.met.P.WidthPlan.low c.args.plan.now c.pieces.level c.pieces.position) in
-    let m : n - (k + 1) ≡ n - k - 1 = omega arith in (
-      omega (arith, room),
-      omega (arith, room),
-      omega (arith, room),
-      omega (arith, room, c.push-in-GoesDown.ensures.count, low),
-      taken_down _ word_bits _ _ _ _ _ _ _ c.width-width.ensures c.pieces.invariant.4 _ _ _ _ _ c.in-GoesDown.ensures c.subvalue-in-GoesDown.ensures c.push-in-GoesDown.ensures.list m,
+    let fits = behind_fits c.pieces.cursor.small
+    c.in-Some.ensures c.in-Some-behind.is in (
+      omega (arith, fits.0, c.push.ensures.count, c.behind-cursor.ensures.left, c.width-width.ensures.low),
+      taken_more _ word_bits _ c.width-width.ensures.is c.pieces.invariant.1 c.in-Some.ensures c.in-Some-behind.is
+          c.behind-cursor.ensures.left c.behind-cursor.ensures.rest c.behind-cursor.ensures.level c.behind-cursor.ensures.position c.push.ensures.list,
     )

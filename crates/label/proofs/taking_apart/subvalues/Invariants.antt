@@ -6,9 +6,8 @@ use Rattle.label.proofs.taking_apart.subvalues.Given as goal
 
 abbrev pub invariant-pieces : goal.invariant-pieces
 invariant-pieces g l =
-    (l.left ≤ word_bits) × (l.level + l.left ≤ word_bits + 1) × (l.position + l.left ≤ word_bits)
-    × (l.spelling.count + l.spelling.count + l.left ≤ word_bits)
-    × Taken (g.P.WidthPlan.width l.plan) word_bits l.word l.left l.rest l.level l.position (listed l.spelling)
+    (l.spelling.count + l.spelling.count + l.cursor.spot.left ≤ word_bits)
+    × Taken (g.P.WidthPlan.width l.plan) word_bits l.word l.cursor.spot.left l.cursor.rest l.cursor.spot.level l.cursor.spot.position (listed l.spelling)
 
 abbrev pub decreases-pieces : goal.decreases-pieces
-decreases-pieces g l = l.left
+decreases-pieces g l = l.cursor.spot.left

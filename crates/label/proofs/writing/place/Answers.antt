@@ -1,14 +1,30 @@
-use Rattle.std.proofs.Common.{ℕ, ◌-◌, ◌*◌, ◌^◌, ◌<◌, ◌≤◌, ap, arith, pow_pos, pow_mono}
+use Rattle.std.proofs.Common.{◌≡◌, ℕ, ◌-◌, ◌*◌, ◌^◌, ◌<◌, ◌≤◌, sym, ap, ◌∙◌, arith, pow_pos, pow_mono}
+use Rattle.std.proofs.lemmas.Bool.{both_ways}
 use Rattle.label.specs.Label.{word_bits}
 use Rattle.label.proofs.Pieces.{in_front}
 use Rattle.label.proofs.writing.place.Goals as goal
+
+pub returns-then-not-may_stand : goal.returns-then-not-may_stand
+returns-then-not-may_stand c = λ room small stands. both_ways _ (sym (c.if-not-may_stand.ensures c.args.spot.position)) stands
+
+-- what is behind the subvalue
+behind : (c : goal.After-power-2) → c.power-2.result ≡ 2 ^ (c.args.spot.left - c.args.width)
+behind c = c.power-2.ensures ∙ ap (λ (m : ℕ). 2 ^ m) (omega (arith, c.in_ok-behind.ensures))
 
 pub overflow_mul-result : goal.overflow_mul-result
 overflow_mul-result c =
     let s : ℕ = c.from-value.result in
     let k : ℕ = c.args.width in
-    let n : ℕ = c.args.left in
+    let n : ℕ = c.args.spot.left in
     let small : s < 2 ^ k = omega (arith, c.power.ensures, c.if-value-power.false) in
-    let fits : s * 2 ^ (n - k) < 2 ^ n = omega (arith, in_front k n s 0 (omega arith) small (pow_pos (n - k))) in
-    let whole : 2 ^ n ≤ 2 ^ word_bits = pow_mono c.requires.2 in
-    omega (arith, ap (λ (m : ℕ). s * m) c.power-2.ensures)
+    let fits : s * 2 ^ (n - k) < 2 ^ n = omega (arith, in_front k n s 0 (omega (arith, c.in_ok-behind.ensures)) small (pow_pos (n - k))) in
+    let whole : 2 ^ n ≤ 2 ^ word_bits = pow_mono c.args.spot.within in
+    omega (arith, ap (λ (m : ℕ). s * m) (behind c))
+
+pub returns : goal.returns
+returns c = (
+  omega (arith, c.in_ok-behind.ensures),
+  omega (arith, c.from-value.ensures, c.power.ensures, c.if-value-power.false),
+  sym (c.if-not-may_stand.ensures c.args.spot.position),
+  rw (behind c, c.from-value.ensures),
+)
