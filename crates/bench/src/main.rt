@@ -2,70 +2,75 @@
 // `bench COUNT` prints checksums over COUNT calls of each kind and the nanoseconds for one; with no word it makes 1000 calls of each and prints the checksums alone.
 #![tactic(auto)]
 
-mod inputs;
+mod opening;
 mod random;
 mod sums;
 
+use opening::Opening;
 use plan::PositionPlan;
+use random::SplitMix;
 use std::env;
+use std::iter::repeat_with;
 use std::time::Instant;
+use sums::{between_sum, read_sum};
+
+// How many calls are made where no number is asked for.
+const UNASKED: usize = 1000;
 
 // The nanoseconds of one call, where `count` took so many.
 fn each(total: u128, count: usize) -> u128 {
     if count == 0 { 0 } else { total / count as u128 }
 }
 
-fn report(
+// Makes inputs from the same pseudo-random numbers, and prints the sum of what the call gives for each, and the time of one where a number of calls is asked for.
+fn measure<T: Drop, Make: Fn(&mut SplitMix) -> T, Call: Fn(&T) -> u64>(
     rt: &HostRuntime,
     name: &str,
-    count: usize,
-    sum: u64,
-    nanoseconds: Option<u128>,
-) -> anyhow::Result<()> {
-    match nanoseconds {
-        Some(ns) => println!(rt; "{name} count {count} checksum {sum:016X} ns {ns}")?,
+    asked: Option<usize>,
+    make: Make,
+    call: Call,
+) -> anyhow::Result<()>
+    requires make { (f : _) (x : _) → Make.pre f x }
+    requires call { (f : _) (x : _) → Call.pre f x }
+{
+    let count = asked.unwrap_or(UNASKED);
+    let mut random = SplitMix::new();
+    let inputs: Vec<T> = repeat_with(|| make(&mut random))
+        .take(count)
+        .collect(rt.alloc())?;
+    let start = Instant::now(rt)?;
+    let sum = inputs.iter().map(call).fold(0, u64::wrapping_add);
+    let nanoseconds = start.elapsed(rt)?.as_nanos();
+    match asked {
+        Some(count) => {
+            let ns = each(nanoseconds, count);
+            println!(rt; "{name} count {count} checksum {sum:016X} ns {ns}")?
+        }
         None => println!(rt; "{name} count {count} checksum {sum:016X}")?,
     }
     Ok(())
 }
 
-fn measure(rt: &HostRuntime, count: usize, timed: bool) -> anyhow::Result<()> {
+fn run(rt: &HostRuntime) -> anyhow::Result<()> {
+    let asked = env::args(rt)?
+        .nth(1)
+        .map(|count| count.as_str().parse::<usize>())
+        .transpose()?;
     let plan = PositionPlan::plan4();
-    let words = inputs::words(rt.alloc(), count)?;
-    let openings = inputs::openings(rt.alloc(), count)?;
-    let start = Instant::now(rt)?;
-    let sum = sums::read_all(&plan, words.as_slice());
-    let read = start.elapsed(rt)?.as_nanos();
-    report(
+    measure(
         rt,
         "read",
-        count,
-        sum,
-        if timed { Some(each(read, count)) } else { None },
+        asked,
+        |random| random.number(),
+        |word| read_sum(&plan, *word),
     )?;
-    let start = Instant::now(rt)?;
-    let sum = sums::between_all(&plan, openings.as_slice());
-    let between = start.elapsed(rt)?.as_nanos();
-    report(
+    measure(
         rt,
         "between",
-        count,
-        sum,
-        if timed {
-            Some(each(between, count))
-        } else {
-            None
-        },
+        asked,
+        Opening::random,
+        |opening| between_sum(&plan, opening),
     )
-}
-
-fn run(rt: &HostRuntime) -> anyhow::Result<()> {
-    let mut words = env::args(rt)?;
-    let _program = words.next();
-    match words.next() {
-        Some(count) => measure(rt, count.as_str().parse::<usize>()?, true),
-        None => measure(rt, 1000, false),
-    }
 }
 
 fn main(rt: HostRuntime) -> anyhow::Result<()> {

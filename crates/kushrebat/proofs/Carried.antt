@@ -1,5 +1,5 @@
 -- What the libraries answer, as the answers of a command. Assumes nothing.
-use Rattle.std.proofs.Common.{◌≡◌, ℕ, ◌^◌, ◌<◌, List, Some, Ok, Option, Result, sym, subst, arith}
+use Rattle.std.proofs.Common.{◌≡◌, ℕ, ◌^◌, ◌<◌, List, Some, Ok, Err, Option, Result, MatchResult, IsOkAnd, sym, subst, arith}
 use Rattle.plan.specs.Plans.{by_either, Makes}
 use Rattle.plan.specs.declared.any.AnyPlan.{AnyPlan}
 use Rattle.plan.specs.declared.fault.PlanFault.{PlanFault}
@@ -13,6 +13,12 @@ use Rattle.kushrebat.specs.declared.command.PlanKind.{PlanKind}
 
 pub by_kind : (kind known : PlanKind) (widths : List ℕ) (r : Result AnyPlan PlanFault) → kind ≡ known → Makes by_either (place_of known) widths r → Makes by_either (place_of kind) widths r
 by_kind kind known widths r e h = subst (λ k. Makes by_either (place_of k) widths r) (sym e) h
+
+-- a plan is made, and is the choice of its kind
+pub made : {P : Type 0} (width : P → ℕ → ℕ → ℕ) (chosen : P → AnyPlan) (place : ℕ → ℕ → ℕ) (widths : List ℕ) (r : Result P PlanFault) (o : Result AnyPlan PlanFault) → ((p : P) → Makes width place widths (Ok p) → Makes by_either place widths (Ok (chosen p))) → Makes width place widths r → MatchResult r (λ p. IsOkAnd o (λ a. a ≡ chosen p)) (λ fault. o ≡ Err fault) → Makes by_either place widths o
+made width chosen place widths (Ok p) (Ok a) keeps h is = subst (λ q. Makes by_either place widths (Ok q)) (sym is) (keeps p h)
+made width chosen place widths (Ok p) (Err fault) keeps h is = absurd is
+made width chosen place widths (Err fault) o keeps h is = subst (Makes by_either place widths) (sym is) h
 
 module _ (w : ℕ → ℕ → ℕ) (N parent : ℕ) (lower upper : Option ℕ) where
   pub found : (o : Option ℕ) (x : ℕ) → o ≡ Some x → Betweens w N parent lower upper (Ok o) → Betweens w N parent lower upper (Ok (Some x))

@@ -1,8 +1,17 @@
 -- Cutting bytes at the first place of a byte. Assumes nothing.
-use Rattle.std.proofs.Common.{◌≡◌, ℕ, zero, suc, ◌<◌, ◌≤◌, true, false, ◌||◌, eqb, ◌⊎◌, List, [], ◌∷◌, ◌++◌, length, get_or, take, drop, sym, refl, ap, ◌∙◌, inl, inr, add-zero, arith, length-drop, get_or-drop, eq-eqb}
-use Rattle.std.proofs.lemmas.Bool.{cond-true, cond-false, ne_eqb, eqb-true, cases_lt}
+use Rattle.std.proofs.Common.{◌≡◌, ℕ, zero, suc, ◌<◌, ◌≤◌, true, false, ◌||◌, eqb, List, [], ◌∷◌, ◌++◌, length, get_or, take, drop, sym, refl, ap, ◌∙◌, add-zero, arith, length-drop, get_or-drop, eq-eqb, ◌≢◌, Some, None, Option, Bor, unwrap_or}
+use Rattle.std.specs.Option.{MatchOption}
+use Rattle.std.proofs.lemmas.Bool.{cond-true, cond-false, ne_eqb, eqb-true}
 use Rattle.kushrebat.specs.Lines.{until, behind, has, trimmed, line_feed, carriage_return, first_line, space, onto, words_of}
-use Rattle.kushrebat.specs.Places.{First, Run}
+use Rattle.kushrebat.specs.Places.{First}
+
+-- ## Places
+
+-- bs begins with n bytes b, and no more
+pub record Run (b : ℕ) (bs : List ℕ) (n : ℕ) : Type 0 where
+  pub within : n ≤ length bs
+  pub all : (k : ℕ) → k < n → get_or bs k 0 ≡ b
+  pub stops : n < length bs → get_or bs n 0 ≢ b
 
 -- ## One byte less
 
@@ -46,19 +55,20 @@ drop_none b (c ∷ cs) (suc n) h e =
 
 -- ## The end of a line
 
-pub trimmed_return : (bs : List ℕ) (c : ℕ) → c ≡ carriage_return → trimmed (bs ++ (c ∷ [])) ≡ bs
-trimmed_return [] c e = cond-true (eqb c carriage_return) _ _ (eq-eqb c carriage_return e)
-trimmed_return (b ∷ []) c e = ap (λ r. b ∷ r) (trimmed_return [] c e)
-trimmed_return (b ∷ d ∷ bs) c e = ap (λ r. b ∷ r) (trimmed_return (d ∷ bs) c e)
+trimmed_return : (bs : List ℕ) → trimmed (bs ++ (carriage_return ∷ [])) ≡ bs
+trimmed_return [] = refl
+trimmed_return (b ∷ []) = ap (λ r. b ∷ r) (trimmed_return [])
+trimmed_return (b ∷ d ∷ bs) = ap (λ r. b ∷ r) (trimmed_return (d ∷ bs))
 
-pub trimmed_other : (bs : List ℕ) (c : ℕ) → (c ≡ carriage_return → ⊥) → trimmed (bs ++ (c ∷ [])) ≡ bs ++ (c ∷ [])
-trimmed_other [] c e = cond-false (eqb c carriage_return) _ _ (ne_eqb c carriage_return e)
-trimmed_other (b ∷ []) c e = ap (λ r. b ∷ r) (trimmed_other [] c e)
-trimmed_other (b ∷ d ∷ bs) c e = ap (λ r. b ∷ r) (trimmed_other (d ∷ bs) c e)
+trimmed_other : (bs : List ℕ) → ((front : List ℕ) → bs ≢ front ++ (carriage_return ∷ [])) → bs ≡ trimmed bs
+trimmed_other [] h = refl
+trimmed_other (c ∷ []) h = sym (cond-false (eqb c carriage_return) _ _ (ne_eqb c carriage_return (λ e. h [] (ap (λ k. k ∷ []) e))))
+trimmed_other (c ∷ d ∷ bs) h = ap (λ r. c ∷ r) (trimmed_other (d ∷ bs) (λ front e. h (c ∷ front) (ap (λ r. c ∷ r) e)))
 
-pub trimmed_none : (bs : List ℕ) → length bs ≡ 0 → bs ≡ trimmed bs
-trimmed_none [] h = refl
-trimmed_none (c ∷ cs) h = absurd (omega arith)
+-- a carriage return is stripped off, where there is one
+pub stripped : (line out : Bor (List ℕ)) (r : Option (Bor (List ℕ))) → MatchOption r ((front : List ℕ) → line.now ≢ front ++ (carriage_return ∷ [])) (λ x. line.now ≡ x.now ++ (carriage_return ∷ [])) → out ≡ unwrap_or r line → out.now ≡ trimmed line.now
+stripped line out None h e = ap (λ o. o.now) e ∙ trimmed_other line.now h
+stripped line out (Some x) h e = ap (λ o. o.now) e ∙ sym (ap trimmed h ∙ trimmed_return x.now)
 
 -- ## Words
 
@@ -92,27 +102,18 @@ none_left (c ∷ cs) h = absurd (omega arith)
 
 -- ## What the iterators give
 
--- spaces, and then nothing more
-pub no_word : (bs begun rest : List ℕ) (n m : ℕ) → Run space bs n → begun ≡ drop n bs → First space begun m → m ≡ 0 → rest ≡ drop m begun → (words_of bs ≡ []) × (words_of rest ≡ [])
-no_word bs begun rest n m run e first z f =
-    let nothing : begun ≡ [] = none_left begun (none (cases_lt 0 (length begun))) in
-    let behind_it : rest ≡ [] = f ∙ ap (λ k. drop k begun) z ∙ nothing in
-    (sym (words_drop bs n run) ∙ ap words_of (sym e ∙ nothing), ap words_of behind_it)
-  where
-    none : (0 < length begun) ⊎ (length begun ≤ 0) → length begun ≡ 0
-    none (inl l) =
-        let more : n < length bs = omega (arith, ap length e, length-drop n bs) in
-        let at : get_or begun m 0 ≡ get_or bs n 0 = ap (λ k. get_or begun k 0) z ∙ ap (λ l. get_or l 0 0) e ∙ get_or-drop n bs 0 0 ∙ ap (λ k. get_or bs k 0) (add-zero n) in
-        absurd (run.stops more (sym at ∙ first.found (omega arith)))
-    none (inr l) = omega arith
+-- spaces, and nothing more
+pub no_word : (bs : List ℕ) (n : ℕ) → Run space bs n → length bs ≤ n → words_of bs ≡ []
+no_word bs n run l = sym (words_drop bs n run) ∙ ap words_of (none_left (drop n bs) (omega (arith, length-drop n bs)))
 
 -- spaces, and then a word up to the next space
-pub a_word : (bs begun word rest : List ℕ) (n m : ℕ) → Run space bs n → begun ≡ drop n bs → First space begun m → 0 < m → word ≡ take m begun → rest ≡ drop m begun → words_of bs ≡ word ∷ words_of rest
-a_word bs begun word rest n m run e first l f g =
-    let whole : words_of bs ≡ words_of begun = sym (words_drop bs n run) ∙ ap words_of (sym e) in
-    let cut = words_first begun m first l in
-    let rest-is : words_of rest ≡ words_of (drop m begun) = ap words_of g in
-    cc
+pub a_word : (bs begins word rest : List ℕ) (n m : ℕ) → Run space bs n → n < length bs → begins ≡ drop n bs → First space begins m → word ≡ take m begins → rest ≡ drop m begins → words_of bs ≡ word ∷ words_of rest
+a_word bs begins word rest n zero run more is first e f =
+    let at : get_or begins 0 0 ≡ get_or bs n 0 = ap (λ l. get_or l 0 0) is ∙ get_or-drop n bs 0 0 ∙ ap (λ k. get_or bs k 0) (add-zero n) in
+    absurd (run.stops more (sym at ∙ first.found (omega (arith, ap length is, length-drop n bs))))
+a_word bs begins word rest n (suc m) run more is first e f =
+    sym (words_drop bs n run) ∙ ap words_of (sym is) ∙ words_first begins (suc m) first (omega arith)
+    ∙ ap (λ w. w ∷ words_of (drop (suc m) begins)) (sym e) ∙ ap (λ r. word ∷ words_of r) (sym f)
 
 pub last_line : (bs line tail : List ℕ) (n : ℕ) → First line_feed bs n → line ≡ take n bs → tail ≡ drop n bs → length tail ≡ 0 → (line ≡ first_line bs) × (tail ≡ behind line_feed bs)
 last_line bs line tail n first e f z =

@@ -61,7 +61,7 @@ abbrev pub Carries : Session → Command → Result Answer Refusal → Session �
 Carries before (Plan kind widths) r after = Chooses before kind (vec_items widths) r after
 Carries before (Ask x) r after = Asks before.plan x r × (after ≡ before)
 Carries before (Relate x y) r after = Tells before.plan x y r × (after ≡ before)
-Carries before (Between parent lower upper) r after = Finds before.plan parent lower upper r × (after ≡ before)
+Carries before (Between parent bounds) r after = Finds before.plan parent bounds.lower bounds.upper r × (after ≡ before)
 
 -- what a refusal or an answer is printed as
 abbrev pub answer_of : Result Answer Refusal → Answer

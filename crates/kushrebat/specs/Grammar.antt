@@ -59,15 +59,15 @@ abbrev pub name_of : Command → Name
 name_of (Plan kind widths) = name.Plan
 name_of (Ask x) = name.Ask
 name_of (Relate x y) = name.Relate
-name_of (Between parent lower upper) = name.Between
+name_of (Between parent bounds) = name.Between
 
 -- the words behind a command's name
 abbrev pub SpellsRest : List (List ℕ) → Command → Type 0
 SpellsRest ws (Plan kind widths) = (k : List ℕ) × (ds : List (List ℕ)) × (ws ≡ k ∷ ds) × SpellsKind k kind × SpellsWidths ds (vec_items widths)
 SpellsRest ws (Ask x) = (a : List ℕ) × (ws ≡ a ∷ []) × SpellsWord a x
 SpellsRest ws (Relate x y) = (a b : List ℕ) × (ws ≡ a ∷ b ∷ []) × SpellsWord a x × SpellsWord b y
-SpellsRest ws (Between parent lower upper) =
-    (a b c : List ℕ) × (ws ≡ a ∷ b ∷ c ∷ []) × SpellsWord a parent × SpellsBound b lower × SpellsBound c upper
+SpellsRest ws (Between parent bounds) =
+    (a b c : List ℕ) × (ws ≡ a ∷ b ∷ c ∷ []) × SpellsWord a parent × SpellsBound b bounds.lower × SpellsBound c bounds.upper
 
 -- the words behind a name spell this command of that name
 abbrev pub SpellsBehind : Name → List (List ℕ) → Command → Type 0

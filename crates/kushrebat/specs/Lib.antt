@@ -4,3 +4,4 @@ pub mod Lines
 pub mod Numerals
 pub mod Places
 pub mod Reasons
+pub mod Refusals

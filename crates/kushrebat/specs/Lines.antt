@@ -63,8 +63,3 @@ words_with c (d ∷ cs) ws = cond (d == space) ((c ∷ []) ∷ ws) (onto c ws)
 abbrev pub words_of : List ℕ → List (List ℕ)
 words_of [] = []
 words_of (c ∷ cs) = cond (c == space) (words_of cs) (words_with c cs (words_of cs))
-
--- the first word is taken away, if there is one
-abbrev pub NextWord : List (List ℕ) → Option (Bor (List ℕ)) → List (List ℕ) → Type 0
-NextWord ws None rest = (ws ≡ []) × (rest ≡ [])
-NextWord ws (Some word) rest = ws ≡ word.now ∷ rest

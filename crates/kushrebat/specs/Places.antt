@@ -6,9 +6,3 @@ pub record First (b : ℕ) (bs : List ℕ) (n : ℕ) : Type 0 where
   pub within : n ≤ length bs
   pub before : (k : ℕ) → k < n → slice_index bs k ≢ b
   pub found : n < length bs → slice_index bs n ≡ b
-
--- bs begins with n bytes b, and no more
-pub record Run (b : ℕ) (bs : List ℕ) (n : ℕ) : Type 0 where
-  pub within : n ≤ length bs
-  pub all : (k : ℕ) → k < n → slice_index bs k ≡ b
-  pub stops : n < length bs → slice_index bs n ≢ b

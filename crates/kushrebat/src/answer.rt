@@ -1,5 +1,6 @@
 // What the program answers.
-ghost use Rattle.std.specs.Prelude.{◌≡◌};
+ghost use Rattle.std.specs.Prelude.{◌≡◌, Some};
+ghost use Rattle.kushrebat.specs.Refusals.{number_of, name_of, written};
 ghost use Rattle.kushrebat.specs.declared.answer.Refusal.TheVariants as refusals;
 
 use crate::script::fault::LineFault;
@@ -16,6 +17,31 @@ pub enum Refusal {
     NoPlace,
 }
 
+impl Refusal {
+    // The refusal's number.
+    pub fn number(&self) -> u8
+        ensures { result ≡ number_of self.now }
+    {
+        match self {
+            Refusal::Plan(fault) => fault.number(),
+            Refusal::Label(fault) => fault.number(),
+            Refusal::NoPlace => 12,
+        }
+    }
+
+    // The refusal's name.
+    pub fn name(&self) -> &'static str
+        ensures { result.now ≡ name_of self.now }
+    {
+        match self {
+            Refusal::Plan(fault) => fault.name(),
+            Refusal::Label(fault) => fault.name(),
+            Refusal::NoPlace => "NO PLACE",
+        }
+    }
+}
+
+// Kept: thiserror's `#[from]` promises nothing of what it makes, and the contracts of what `?` turns down name the refusal, by these clauses.
 impl From<PlanFault> for Refusal {
     ghost from_gives = { λ fault r. r ≡ refusals.Plan fault };
 
@@ -29,6 +55,19 @@ impl From<LabelFault> for Refusal {
 
     fn from(fault: LabelFault) -> Refusal {
         Refusal::Label(fault)
+    }
+}
+
+// The refusal's number and name, and the values that it carries.
+impl fmt::Display for Refusal {
+    ghost output = { λ refusal. Some (written refusal) };
+
+    fn fmt<W: fmt::Write>(&self, f: &mut fmt::Formatter<W>) -> fmt::Result {
+        write!(f, "{} {}", self.number(), self.name())?;
+        match self {
+            Refusal::Label(fault) => write!(f, " bit {}", fault.bit()),
+            Refusal::Plan(_) | Refusal::NoPlace => Ok(()),
+        }
     }
 }
 
@@ -47,26 +86,6 @@ pub enum Answer {
     Refused(Refusal),
     // The line cannot be read.
     Unreadable(LineFault),
-}
-
-// The refusal's number and name, and the values that it carries.
-impl fmt::Display for Refusal {
-    fn fmt<W: fmt::Write>(&self, f: &mut fmt::Formatter<W>) -> fmt::Result {
-        match self {
-            Refusal::Plan(fault) => {
-                let number = fault.number();
-                let name = fault.name();
-                write!(f, "{number} {name}")
-            }
-            Refusal::Label(fault) => {
-                let number = fault.number();
-                let name = fault.name();
-                let bit = fault.bit();
-                write!(f, "{number} {name} bit {bit}")
-            }
-            Refusal::NoPlace => f.write_str("12 NO PLACE"),
-        }
-    }
 }
 
 // What stands for a relation in an answer.

@@ -1,14 +1,15 @@
 // The commands of a script.
-ghost use Rattle.std.specs.Prelude.{◌≡◌, min, List, [], ◌∷◌, MatchResult, ◌≢◌};
+ghost use Rattle.std.specs.Prelude.{◌≡◌, List, [], ◌∷◌, MatchResult, ◌≢◌};
 ghost use Rattle.std.specs.Option as options;
-ghost use Rattle.kushrebat.specs.Grammar.{left, text_of, Takes, SpellsWord, SpellsBound, SpellsKind, SpellsWidths, SpellsBehind, Part, a_word, a_bound, Misread, MisreadWidths, MisreadPlan, MisreadBehind, Parses};
-ghost use Rattle.kushrebat.specs.declared.script.fault.LineFault.TheVariants.{MissingWord};
+ghost use Rattle.kushrebat.specs.Grammar.{left, text_of, Takes, SpellsWord, SpellsBound, SpellsKind, SpellsWidth, SpellsWidths, SpellsBehind, Part, a_word, a_bound, Misread, MisreadWidths, MisreadPlan, MisreadBehind, Parses};
+ghost use Rattle.kushrebat.specs.declared.script.fault.LineFault.TheVariants.{MissingWord, NotANumber};
+ghost use Rattle.kushrebat.specs.Numerals.{Number};
 
 use crate::script::fault::LineFault;
-use crate::script::keyword::is;
 use crate::script::line::{Words, without_comment};
 use crate::script::number::number;
 use crate::script::word::word;
+use gap::Bounds;
 use label::Word;
 use std::alloc::Global;
 
@@ -28,8 +29,8 @@ pub enum Command {
     Ask(Word),
     // How the labels of two words stand to each other.
     Relate(Word, Word),
-    // The label for a new child of the first word, above the second and below the third.
-    Between(Word, Option<Word>, Option<Word>),
+    // The label for a new child of a word, between bounds.
+    Between(Word, Bounds),
 }
 
 // The first word of a command.
@@ -41,135 +42,118 @@ pub enum Name {
     Between,
 }
 
-// The next word, which must be there.
-fn need<'a>(words: &mut Words<'a>) -> Result<&'a [u8], LineFault>
-    ensures { MatchResult result (λ word. left words.old ≡ word.now ∷ left words.new) (λ fault. (left words.old ≡ []) × (fault ≡ MissingWord)) }
-{
-    words.next().ok_or(LineFault::MissingWord)
-}
+// What the words of a line have to be, from left to right.
+impl<'a> Words<'a> {
+    // The next word, which must be there.
+    fn need(&mut self) -> Result<&'a [u8], LineFault>
+        ensures { MatchResult result (λ word. left self.old ≡ word.now ∷ left self.new) (λ fault. (left self.old ≡ []) × (fault ≡ MissingWord)) }
+    {
+        self.next().ok_or(LineFault::MissingWord)
+    }
 
-// There must be no further word.
-fn end(words: &mut Words) -> Result<(), LineFault>
-    ensures { MatchResult result (λ _. left words.old ≡ []) (Misread [] (left words.old)) }
-{
-    match words.next() {
-        Some(_) => Err(LineFault::ExtraWord),
-        None => Ok(()),
+    // There must be no further word.
+    fn end(&mut self) -> Result<(), LineFault>
+        ensures { MatchResult result (λ _. left self.old ≡ []) (Misread [] (left self.old)) }
+    {
+        match self.next() {
+            Some(_) => Err(LineFault::ExtraWord),
+            None => Ok(()),
+        }
     }
-}
 
-fn label_word(words: &mut Words) -> Result<Word, LineFault>
-    ensures { MatchResult result (λ x. Takes SpellsWord (left words.old) x (left words.new)) (λ fault. (ps : List Part) → Misread (a_word ∷ ps) (left words.old) fault) }
-{
-    let digits = need(words)?;
-    word(digits).ok_or(LineFault::NotALabelWord)
-}
+    fn label_word(&mut self) -> Result<Word, LineFault>
+        ensures { MatchResult result (λ x. Takes SpellsWord (left self.old) x (left self.new)) (λ fault. (ps : List Part) → Misread (a_word ∷ ps) (left self.old) fault) }
+    {
+        word(self.need()?).ok_or(LineFault::NotALabelWord)
+    }
 
-// A bound is a label word, or `none`.
-fn bound(words: &mut Words) -> Result<Option<Word>, LineFault>
-    ensures { MatchResult result (λ b. Takes SpellsBound (left words.old) b (left words.new)) (λ fault. (ps : List Part) → Misread (a_bound ∷ ps) (left words.old) fault) }
-{
-    let digits = need(words)?;
-    if is(digits, b"none") {
-        return Ok(None);
+    // A bound is a label word, or `none`.
+    fn bound(&mut self) -> Result<Option<Word>, LineFault>
+        ensures { MatchResult result (λ b. Takes SpellsBound (left self.old) b (left self.new)) (λ fault. (ps : List Part) → Misread (a_bound ∷ ps) (left self.old) fault) }
+    {
+        match self.need()? {
+            b"none" => Ok(None),
+            digits => word(digits).map(Some).ok_or(LineFault::NotALabelWord),
+        }
     }
-    match word(digits) {
-        Some(bound) => Ok(Some(bound)),
-        None => Err(LineFault::NotALabelWord),
-    }
-}
 
-fn plan_kind(words: &mut Words) -> Result<PlanKind, LineFault>
-    ensures { MatchResult result (λ kind. Takes SpellsKind (left words.old) kind (left words.new)) (MisreadPlan (left words.old)) }
-{
-    let kind = need(words)?;
-    if is(kind, b"position") {
-        return Ok(PlanKind::Position);
+    fn plan_kind(&mut self) -> Result<PlanKind, LineFault>
+        ensures { MatchResult result (λ kind. Takes SpellsKind (left self.old) kind (left self.new)) (MisreadPlan (left self.old)) }
+    {
+        match self.need()? {
+            b"position" => Ok(PlanKind::Position),
+            b"level" => Ok(PlanKind::Level),
+            _ => Err(LineFault::UnknownCommand),
+        }
     }
-    if is(kind, b"level") {
-        return Ok(PlanKind::Level);
+
+    // All further words, as widths.
+    fn widths(self, heap: Global) -> Result<Vec<u8>, LineFault>
+        ensures { MatchResult result (λ all. SpellsWidths (left self.entry) all.items) (MisreadWidths (left self.entry)) }
+    {
+        self.map(width).try_collect(heap)
     }
-    Err(LineFault::UnknownCommand)
 }
 
 // A number as a width. One that no byte holds becomes 255, which is no width either.
-fn width(number: u64) -> u8
-    ensures { result ≡ min number 255 }
+fn width(digits: &[u8]) -> Result<u8, LineFault>
+    ensures { MatchResult result (SpellsWidth digits.now) (λ fault. (Number digits.now → ⊥) × (fault ≡ NotANumber)) }
 {
-    u8::try_from(number).unwrap_or(u8::MAX)
+    let number = number(digits).ok_or(LineFault::NotANumber)?;
+    Ok(u8::try_from(number).unwrap_or(u8::MAX))
 }
 
-// All further words, as widths.
-fn widths(heap: Global, words: &mut Words) -> Result<Vec<u8>, LineFault>
-    ensures { MatchResult result (λ all. SpellsWidths (left words.old) all.items) (MisreadWidths (left words.old)) }
+fn plan(heap: Global, mut words: Words) -> Result<Command, LineFault>
+    ensures { MatchResult result (SpellsBehind Name.Plan (left words.entry)) (MisreadPlan (left words.entry)) }
 {
-    let mut all = Vec::new(heap);
-    while let Some(digits) = words.next() {
-        match number(digits) {
-            Some(number) => all.push(width(number))?,
-            None => return Err(LineFault::NotANumber),
-        }
-    }
-    Ok(all)
-}
-
-fn plan(heap: Global, words: &mut Words) -> Result<Command, LineFault>
-    ensures { MatchResult result (SpellsBehind Name.Plan (left words.old)) (MisreadPlan (left words.old)) }
-{
-    let kind = plan_kind(words)?;
-    let widths = widths(heap, words)?;
+    let kind = words.plan_kind()?;
+    let widths = words.widths(heap)?;
     Ok(Command::Plan(kind, widths))
 }
 
-fn ask(words: &mut Words) -> Result<Command, LineFault>
-    ensures { MatchResult result (SpellsBehind Name.Ask (left words.old)) (MisreadBehind Name.Ask (left words.old)) }
+fn ask(mut words: Words) -> Result<Command, LineFault>
+    ensures { MatchResult result (SpellsBehind Name.Ask (left words.entry)) (MisreadBehind Name.Ask (left words.entry)) }
 {
-    let asked = label_word(words)?;
-    end(words)?;
+    let asked = words.label_word()?;
+    words.end()?;
     Ok(Command::Ask(asked))
 }
 
-fn relate(words: &mut Words) -> Result<Command, LineFault>
-    ensures { MatchResult result (SpellsBehind Name.Relate (left words.old)) (MisreadBehind Name.Relate (left words.old)) }
+fn relate(mut words: Words) -> Result<Command, LineFault>
+    ensures { MatchResult result (SpellsBehind Name.Relate (left words.entry)) (MisreadBehind Name.Relate (left words.entry)) }
 {
-    let first = label_word(words)?;
-    let second = label_word(words)?;
-    end(words)?;
+    let first = words.label_word()?;
+    let second = words.label_word()?;
+    words.end()?;
     Ok(Command::Relate(first, second))
 }
 
-fn between(words: &mut Words) -> Result<Command, LineFault>
-    ensures { MatchResult result (SpellsBehind Name.Between (left words.old)) (MisreadBehind Name.Between (left words.old)) }
+fn between(mut words: Words) -> Result<Command, LineFault>
+    ensures { MatchResult result (SpellsBehind Name.Between (left words.entry)) (MisreadBehind Name.Between (left words.entry)) }
 {
-    let parent = label_word(words)?;
-    let lower = bound(words)?;
-    let upper = bound(words)?;
-    end(words)?;
-    Ok(Command::Between(parent, lower, upper))
+    let parent = words.label_word()?;
+    let lower = words.bound()?;
+    let upper = words.bound()?;
+    words.end()?;
+    Ok(Command::Between(parent, Bounds { lower, upper }))
 }
 
 // The command that a word names.
 fn named(word: &[u8]) -> Option<Name>
     ensures { options.MatchOption result ((n : Name) → word.now ≢ text_of n) (λ n. word.now ≡ text_of n) }
 {
-    if is(word, b"plan") {
-        return Some(Name::Plan);
+    match word {
+        b"plan" => Some(Name::Plan),
+        b"ask" => Some(Name::Ask),
+        b"relate" => Some(Name::Relate),
+        b"between" => Some(Name::Between),
+        _ => None,
     }
-    if is(word, b"ask") {
-        return Some(Name::Ask);
-    }
-    if is(word, b"relate") {
-        return Some(Name::Relate);
-    }
-    if is(word, b"between") {
-        return Some(Name::Between);
-    }
-    None
 }
 
 // The command of this name with the words behind it.
-fn parse_behind(heap: Global, name: Name, words: &mut Words) -> Result<Command, LineFault>
-    ensures { MatchResult result (SpellsBehind name (left words.old)) (MisreadBehind name (left words.old)) }
+fn parse_behind(heap: Global, name: Name, words: Words) -> Result<Command, LineFault>
+    ensures { MatchResult result (SpellsBehind name (left words.entry)) (MisreadBehind name (left words.entry)) }
 {
     match name {
         Name::Plan => plan(heap, words),
@@ -188,10 +172,7 @@ impl Command {
         let Some(word) = words.next() else {
             return Ok(None);
         };
-        let Some(name) = named(word) else {
-            return Err(LineFault::UnknownCommand);
-        };
-        let command = parse_behind(heap, name, &mut words)?;
-        Ok(Some(command))
+        let name = named(word).ok_or(LineFault::UnknownCommand)?;
+        Ok(Some(parse_behind(heap, name, words)?))
     }
 }

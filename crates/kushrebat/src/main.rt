@@ -12,30 +12,18 @@ use script::lines::Lines;
 use session::Session;
 use std::io::{BufWriter, Read, Write};
 use std::process::ExitCode;
-use std::{env, fmt, fs, io};
+use std::{env, fs, io};
+use thiserror::Error;
 
 // Why the program ends before its task is done.
-#[derive(Drop)]
+#[derive(Debug, Drop, Error)]
 enum Failure {
     // The words behind the program's name make no sense.
+    #[error("{usage}", usage = USAGE)]
     Usage,
     // The script cannot be read, or the answers cannot be written.
-    Io(io::Error),
-}
-
-impl From<io::Error> for Failure {
-    fn from(e: io::Error) -> Failure {
-        Failure::Io(e)
-    }
-}
-
-impl fmt::Display for Failure {
-    fn fmt<W: fmt::Write>(&self, f: &mut fmt::Formatter<W>) -> fmt::Result {
-        match self {
-            Failure::Usage => f.write_str(USAGE),
-            Failure::Io(e) => write!(f, "kushrebat: {e}"),
-        }
-    }
+    #[error("kushrebat: {0}")]
+    Io(#[from] io::Error),
 }
 
 // What the program is asked for.
@@ -48,22 +36,19 @@ enum Task {
     Help,
 }
 
-// The task by the words behind the program's name, or none where they make no sense.
-fn asked(rt: &HostRuntime) -> io::Result<Option<Task>> {
+// The task by the words behind the program's name.
+fn asked(rt: &HostRuntime) -> Result<Task, Failure> {
     let mut words = env::args(rt)?.skip(1);
-    let first = words.next();
+    let Some(word) = words.next() else {
+        return Ok(Task::Input);
+    };
     if words.next().is_some() {
-        return Ok(None);
+        return Err(Failure::Usage);
     }
-    Ok(match first {
-        None => Some(Task::Input),
-        Some(word) => {
-            if word.as_str() == "--help" {
-                Some(Task::Help)
-            } else {
-                Some(Task::File(word))
-            }
-        }
+    Ok(if word.as_str() == "--help" {
+        Task::Help
+    } else {
+        Task::File(word)
     })
 }
 
@@ -78,20 +63,17 @@ fn read_input(rt: &HostRuntime) -> io::Result<Vec<u8>> {
 fn answer_script(rt: &HostRuntime, script: &[u8]) -> io::Result<()> {
     let mut session = Session::new();
     let mut out = BufWriter::new(rt.alloc(), rt.stdout())?;
-    for line in Lines::of(script) {
-        if let Some(answer) = session.answer_line(rt.alloc(), line) {
-            writeln!(out, "{answer}")?;
-        }
+    for answer in Lines::of(script).filter_map(|line| session.answer_line(rt.alloc(), line)) {
+        writeln!(out, "{answer}")?;
     }
     out.flush()
 }
 
 fn run(rt: &HostRuntime) -> Result<(), Failure> {
     match asked(rt)? {
-        Some(Task::Input) => answer_script(rt, read_input(rt)?.as_slice())?,
-        Some(Task::File(name)) => answer_script(rt, fs::read(rt, name)?.as_slice())?,
-        Some(Task::Help) => print!(rt; "{USAGE}\n{HELP}")?,
-        None => return Err(Failure::Usage),
+        Task::Input => answer_script(rt, read_input(rt)?.as_slice())?,
+        Task::File(name) => answer_script(rt, fs::read(rt, name)?.as_slice())?,
+        Task::Help => print!(rt; "{USAGE}\n{HELP}")?,
     }
     Ok(())
 }

@@ -6,6 +6,7 @@ ghost use Rattle.kushrebat.specs.Carrying.{place_of, Chooses, Asks, Tells, Finds
 use crate::answer::{Answer, Refusal};
 use crate::command::{Command, PlanKind};
 use crate::script::fault::LineFault;
+use gap::Bounds;
 use label::{Word, read, take_apart};
 use plan::{AnyPlan, LevelPlan, PlanFault, PositionPlan};
 use std::alloc::Global;
@@ -15,8 +16,8 @@ fn planned(kind: PlanKind, widths: &[u8]) -> Result<AnyPlan, PlanFault>
     ensures { Makes by_either (place_of kind) widths.now result }
 {
     match kind {
-        PlanKind::Position => Ok(AnyPlan::Position(PositionPlan::new(widths)?)),
-        PlanKind::Level => Ok(AnyPlan::Level(LevelPlan::new(widths)?)),
+        PlanKind::Position => PositionPlan::new(widths).map(AnyPlan::Position),
+        PlanKind::Level => LevelPlan::new(widths).map(AnyPlan::Level),
     }
 }
 
@@ -31,22 +32,13 @@ fn ask(plan: &AnyPlan, word: Word) -> Result<Answer, Refusal>
 fn relate(plan: &AnyPlan, first: Word, second: Word) -> Result<Answer, Refusal>
     ensures { Tells plan.now first second result }
 {
-    let relation = label::relate(plan, first, second)?;
-    Ok(Answer::Stands(relation))
+    Ok(Answer::Stands(label::relate(plan, first, second)?))
 }
 
-fn between(
-    plan: &AnyPlan,
-    parent: Word,
-    lower: Option<Word>,
-    upper: Option<Word>,
-) -> Result<Answer, Refusal>
-    ensures { Finds plan.now parent lower upper result }
+fn between(plan: &AnyPlan, parent: Word, bounds: Bounds) -> Result<Answer, Refusal>
+    ensures { Finds plan.now parent bounds.lower bounds.upper result }
 {
-    let between = gap::between(plan, parent, lower, upper)?;
-    let Some(word) = between else {
-        return Err(Refusal::NoPlace);
-    };
+    let word = gap::between(plan, parent, bounds)?.ok_or(Refusal::NoPlace)?;
     let text = take_apart(plan, word)?;
     Ok(Answer::Found(word, text))
 }
@@ -82,7 +74,7 @@ impl Session {
             Command::Plan(kind, widths) => self.choose(kind, widths.as_slice()),
             Command::Ask(word) => ask(&self.plan, word),
             Command::Relate(first, second) => relate(&self.plan, first, second),
-            Command::Between(parent, lower, upper) => between(&self.plan, parent, lower, upper),
+            Command::Between(parent, bounds) => between(&self.plan, parent, bounds),
         }
     }
 
@@ -90,13 +82,10 @@ impl Session {
     pub(crate) fn answer_line(&mut self, heap: Global, line: &[u8]) -> Option<Answer>
         ensures { AnswersLine self.old line.now result self.new }
     {
-        match Command::parse(heap, line) {
-            Ok(None) => None,
-            Ok(Some(command)) => match self.carry_out(command) {
-                Ok(answer) => Some(answer),
-                Err(refusal) => Some(Answer::Refused(refusal)),
-            },
-            Err(fault) => Some(Answer::Unreadable(fault)),
-        }
+        let answer = match Command::parse(heap, line).transpose()? {
+            Ok(command) => self.carry_out(command).unwrap_or_else(Answer::Refused),
+            Err(fault) => Answer::Unreadable(fault),
+        };
+        Some(answer)
     }
 }

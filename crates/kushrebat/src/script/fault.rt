@@ -3,7 +3,7 @@ ghost use Rattle.std.specs.Prelude.{◌≡◌, Some};
 ghost use Rattle.kushrebat.specs.Reasons.{reason_of};
 ghost use Rattle.kushrebat.specs.declared.script.fault.LineFault.TheVariants.{OutOfMemory};
 
-use std::alloc::{AllocError, AllocFailed};
+use std::alloc::AllocError;
 use std::fmt;
 
 #[derive(Clone, Copy, PartialEq, Eq, Debug)]
@@ -32,18 +32,11 @@ impl LineFault {
     }
 }
 
+// Kept: thiserror's `#[from]` promises nothing of what it makes, and a line that is turned down where memory is out is told so by this clause.
 impl From<AllocError> for LineFault {
     ghost from_gives = { λ _ r. r ≡ OutOfMemory };
 
     fn from(_e: AllocError) -> LineFault {
-        LineFault::OutOfMemory
-    }
-}
-
-impl<T: Drop> From<AllocFailed<T>> for LineFault {
-    ghost from_gives = { λ _ r. r ≡ OutOfMemory };
-
-    fn from(_e: AllocFailed<T>) -> LineFault {
         LineFault::OutOfMemory
     }
 }

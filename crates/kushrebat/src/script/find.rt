@@ -5,10 +5,5 @@ ghost use Rattle.kushrebat.specs.Places.{First};
 pub(crate) fn find(bytes: &[u8], byte: u8) -> usize
     ensures { First byte bytes.now result }
 {
-    for (i, x) in bytes.iter().enumerate() {
-        if *x == byte {
-            return i;
-        }
-    }
-    bytes.len()
+    bytes.iter().position(|x| *x == byte).unwrap_or(bytes.len())
 }

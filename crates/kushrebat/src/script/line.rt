@@ -1,7 +1,8 @@
 // The words of a line.
 ghost use Rattle.std.specs.Prelude.{◌≡◌};
-ghost use Rattle.kushrebat.specs.Lines.{until, comment, space, words_of, NextWord};
-ghost use Rattle.kushrebat.specs.Places.{Run};
+ghost use Rattle.std.specs.Iterator.{YieldsFirstRef, item_count};
+ghost use Rattle.kushrebat.specs.Lines.{until, comment};
+ghost use Rattle.kushrebat.specs.Grammar.{left};
 
 use crate::script::find::find;
 
@@ -9,20 +10,7 @@ use crate::script::find::find;
 pub(crate) fn without_comment(line: &[u8]) -> &[u8]
     ensures { result.now ≡ until comment line.now }
 {
-    let (command, _) = line.split_at(find(line, b'#'));
-    command
-}
-
-// How many spaces the bytes begin with.
-fn spaces(bytes: &[u8]) -> usize
-    ensures { Run space bytes.now result }
-{
-    for (i, x) in bytes.iter().enumerate() {
-        if *x != b' ' {
-            return i;
-        }
-    }
-    bytes.len()
+    &line[..find(line, b'#')]
 }
 
 // What is left of a line whose words are taken from left to right.
@@ -37,14 +25,21 @@ impl<'a> Words<'a> {
     {
         Words { rest: command }
     }
+}
 
-    // The next word, if there is one.
-    pub(crate) fn next(&mut self) -> Option<&'a [u8]>
-        ensures { NextWord (words_of self.old.rest.now) result (words_of self.new.rest.now) }
-    {
-        let (_, begins) = self.rest.split_at(spaces(self.rest));
+// A word goes to the next space.
+impl<'a> Iterator for Words<'a> {
+    type Item = &'a [u8];
+
+    ghost next_gives = { YieldsFirstRef left };
+
+    ghost remaining = { item_count left };
+
+    fn next(&mut self) -> Option<&'a [u8]> {
+        let spaces = self.rest.iter().position(|x| *x != b' ')?;
+        let begins = &self.rest[spaces..];
         let (word, rest) = begins.split_at(find(begins, b' '));
         self.rest = rest;
-        if word.is_empty() { None } else { Some(word) }
+        Some(word)
     }
 }

@@ -23,10 +23,7 @@ impl<'a> Lines<'a> {
 fn without_return(line: &[u8]) -> &[u8]
     ensures { result.now ≡ trimmed line.now }
 {
-    match line.split_last() {
-        Some((last, before)) => if *last == b'\r' { before } else { line },
-        None => line,
-    }
+    line.strip_suffix(b"\r").unwrap_or(line)
 }
 
 // A line ends at a line feed, which the last one may lack.
@@ -38,19 +35,18 @@ impl<'a> Iterator for Lines<'a> {
     ghost remaining = { λ s. at_most (length s.rest.now) };
 
     fn next(&mut self) -> Option<&'a [u8]> {
-        let rest = self.rest;
-        if rest.is_empty() {
+        if self.rest.is_empty() {
             return None;
         }
-        let (line, behind) = rest.split_at(find(rest, b'\n'));
+        let (line, behind) = self.rest.split_at(find(self.rest, b'\n'));
         match behind.split_first() {
-            None => {
-                self.rest = behind;
-                Some(line)
-            }
             Some((_, further)) => {
                 self.rest = further;
                 Some(without_return(line))
+            }
+            None => {
+                self.rest = behind;
+                Some(line)
             }
         }
     }

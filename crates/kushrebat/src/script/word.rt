@@ -2,6 +2,7 @@
 ghost use Rattle.std.specs.Option.{SomeIff};
 ghost use Rattle.kushrebat.specs.Numerals.{LabelWord, hexadecimal};
 
+use crate::script::digits::value;
 use label::Word;
 
 // How many hexadecimal digits a label word has.
@@ -11,13 +12,9 @@ const DIGITS: usize = 16;
 pub(crate) fn word(digits: &[u8]) -> Option<Word>
     ensures { SomeIff result (LabelWord digits.now) (hexadecimal digits.now) }
 {
-    if digits.len() != DIGITS {
-        return None;
+    if digits.len() == DIGITS {
+        value::<16>(digits)
+    } else {
+        None
     }
-    let mut value: Word = 0;
-    for c in digits {
-        let digit = char::from(*c).to_digit(16)?;
-        value = value * 16 + Word::from(digit);
-    }
-    Some(value)
 }

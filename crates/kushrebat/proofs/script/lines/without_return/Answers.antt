@@ -1,14 +1,10 @@
-use Rattle.std.proofs.Common.{sym, ap, ◌∙◌}
-use Rattle.kushrebat.specs.Lines.{trimmed}
-use Rattle.kushrebat.proofs.Cuts.{trimmed_return, trimmed_other, trimmed_none}
+use Rattle.std.proofs.Common.{[], ◌∷◌}
+use Rattle.std.proofs.lemmas.Bool.Decides.{Decides-eqb}
+use Rattle.std.proofs.lemmas.Slice.Eq.{strip_suffix_is}
+use Rattle.kushrebat.specs.Lines.{carriage_return}
+use Rattle.kushrebat.proofs.Cuts.{stripped}
 use Rattle.kushrebat.proofs.script.lines.without_return.Goals as goal
 
-pub returns-then-last-eq13 : goal.returns-then-last-eq13
-returns-then-last-eq13 c = sym (ap trimmed c.in-Some.ensures.cases.0 ∙ trimmed_return _ _ c.if-last-eq13.true)
-
-pub returns-else-last-eq13 : goal.returns-else-last-eq13
-returns-else-last-eq13 c =
-    let e = c.in-Some.ensures.cases.0 in e ∙ sym (ap trimmed e ∙ trimmed_other _ _ c.if-last-eq13.false)
-
-pub returns-in-None : goal.returns-in-None
-returns-in-None c = trimmed_none _ c.in-None.ensures.cases
+pub returns : goal.returns
+returns c =
+    stripped _ _ c.strip_suffix.result (strip_suffix_is Decides-eqb c.args.line.now (carriage_return ∷ []) c.strip_suffix.result c.strip_suffix.ensures.cases) c.unwrap_or.ensures

@@ -1,7 +1,0 @@
-use Rattle.std.proofs.Common.{◌≡◌, ◌^◌, ◌<◌, take}
-use Rattle.std.specs.Str.Parse.{AllDigits, digits_value}
-use Rattle.kushrebat.proofs.script.number.number.Given as goal
-
-abbrev pub invariant-loop-c : goal.invariant-loop-c
-invariant-loop-c l =
-    (l.value ≡ digits_value 10 (take l.c-index l.digits)) × AllDigits 10 (take l.c-index l.digits) × (l.value < 2 ^ 64)

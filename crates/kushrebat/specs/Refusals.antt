@@ -1,0 +1,26 @@
+-- The refusals of calls: their numbers, their names and how they are printed. Assumes nothing.
+use Rattle.std.specs.Prelude.{ℕ, List, ◌++◌, codes, decimal}
+use Rattle.plan.specs.Fault as plan
+use Rattle.label.specs.Fault as label
+use Rattle.kushrebat.specs.declared.answer.Refusal.{Refusal}
+use Rattle.kushrebat.specs.declared.answer.Refusal.TheVariants.{Plan, Label, NoPlace}
+
+abbrev pub number_of : Refusal → ℕ
+number_of (Plan fault) = plan.number_of fault
+number_of (Label fault) = label.number_of fault
+number_of NoPlace = 12
+
+abbrev pub name_of : Refusal → List ℕ
+name_of (Plan fault) = plan.name_of fault
+name_of (Label fault) = label.name_of fault
+name_of NoPlace = codes "NO PLACE"
+
+-- what is printed behind the name: the bit of a label's fault
+abbrev pub carried : Refusal → List ℕ
+carried (Plan fault) = codes ""
+carried (Label fault) = codes " bit " ++ decimal (label.bit_of fault)
+carried NoPlace = codes ""
+
+-- the refusal as it is printed: the number, a space, the name and what it carries
+abbrev pub written : Refusal → List ℕ
+written refusal = decimal (number_of refusal) ++ (codes " " ++ (name_of refusal ++ carried refusal))
