@@ -1,6 +1,6 @@
 -- The words of menu cards.
 use Rattle.std.specs.Prelude.{◌≡◌, ℕ, ◌+◌, ◌/◌, ◌%◌, ◌^◌, ◌<◌, ◌≤◌, Bool, true, false, leb, Some, nat_le, refl}
-use Rattle.std.proofs.Common.{sym, ap, subst, ◌∙◌, arith}
+use Rattle.std.proofs.Common.{sym, ap, ◌∙◌, arith}
 use Rattle.std.proofs.Math.Bridge.{le_prop}
 use Rattle.card.specs.Ranges.{some_bounded, from_both}
 use Rattle.card.specs.Readings.{reads_word}
@@ -44,7 +44,8 @@ round c =
 
 -- what three numbers make, if anything, has the word of those numbers
 word_of_menu : (s l a : ℕ) (c : MenuCard) → menu_of s l a ≡ Some c → code c ≡ packed s l a
-word_of_menu s l a c = from_both 1 24 0 999 l a (placed s) (λ o. option_flatten o ≡ Some c → code c ≡ packed s l a) (λ e. cc) (λ x y p q. subst (λ n. placed s x y ≡ Some c → code c ≡ n) (rw (p, q) refl) (by_test x y (nat_le (s + x.value) 65535) refl))
+word_of_menu s l a c = from_both 1 24 0 999 l a (placed s) (λ o. option_flatten o ≡ Some c → code c ≡ packed s l a) (λ e. cc)
+    (λ x y p q e. by_test x y (nat_le (s + x.value) 65535) refl e ∙ rw (p, q))
   where
     by_test : (x : Bounded 1 24) (y : Bounded 0 999) (t : Bool) (e : leb (s + x.value) 65535 ≡ t) → placed_by s x y t e ≡ Some c → code c ≡ packed s x.value y.value
     by_test x y true e p = let q : with_proof s x y (leb-true (s + x.value) 65535 e) ≡ c = cc in sym (ap code q)
