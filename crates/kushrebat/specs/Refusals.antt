@@ -15,12 +15,8 @@ name_of (Plan fault) = plan.name_of fault
 name_of (Label fault) = label.name_of fault
 name_of NoPlace = codes "NO PLACE"
 
--- what is printed behind the name: the bit of a label's fault
-abbrev pub carried : Refusal → List ℕ
-carried (Plan fault) = codes ""
-carried (Label fault) = codes " bit " ++ decimal (label.bit_of fault)
-carried NoPlace = codes ""
-
--- the refusal as it is printed: the number, a space, the name and what it carries
+-- the refusal as it is printed: its number and its name, and what a label's fault carries
 abbrev pub written : Refusal → List ℕ
-written refusal = decimal (number_of refusal) ++ (codes " " ++ (name_of refusal ++ carried refusal))
+written (Plan fault) = plan.written fault
+written (Label fault) = label.text_of fault
+written NoPlace = decimal (number_of NoPlace) ++ (codes " " ++ name_of NoPlace)

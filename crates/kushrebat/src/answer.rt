@@ -63,10 +63,10 @@ impl fmt::Display for Refusal {
     ghost output = { λ refusal. Some (written refusal) };
 
     fn fmt<W: fmt::Write>(&self, f: &mut fmt::Formatter<W>) -> fmt::Result {
-        write!(f, "{} {}", self.number(), self.name())?;
         match self {
-            Refusal::Label(fault) => write!(f, " bit {}", fault.bit()),
-            Refusal::Plan(_) | Refusal::NoPlace => Ok(()),
+            Refusal::Plan(fault) => write!(f, "{fault}"),
+            Refusal::Label(fault) => write!(f, "{fault}"),
+            Refusal::NoPlace => write!(f, "{} {}", self.number(), self.name()),
         }
     }
 }
@@ -88,33 +88,20 @@ pub enum Answer {
     Unreadable(LineFault),
 }
 
-// What stands for a relation in an answer.
-fn relation_name(relation: &Relation) -> &'static str {
-    match relation {
-        Relation::Same => "same",
-        Relation::Above => "above",
-        Relation::Below => "below",
-        Relation::Before => "before",
-        Relation::After => "after",
-    }
-}
-
 // A word is printed as sixteen capital hexadecimal digits.
 impl fmt::Display for Answer {
     fn fmt<W: fmt::Write>(&self, f: &mut fmt::Formatter<W>) -> fmt::Result {
         match self {
             Answer::Done => f.write_str("ok"),
             Answer::Read(reading, text) => {
-                let bits = reading.bits;
-                let level = reading.level;
-                write!(f, "bits {bits} level {level} parent ")?;
+                write!(f, "bits {} level {} parent ", reading.bits, reading.level)?;
                 match reading.parent {
                     Some(parent) => write!(f, "{parent:016X}")?,
                     None => f.write_str("none")?,
                 }
                 write!(f, " text {text}")
             }
-            Answer::Stands(relation) => f.write_str(relation_name(relation)),
+            Answer::Stands(relation) => write!(f, "{relation}"),
             Answer::Found(word, text) => write!(f, "label {word:016X} {text}"),
             Answer::Refused(refusal) => write!(f, "no {refusal}"),
             Answer::Unreadable(fault) => write!(f, "error {fault}"),
