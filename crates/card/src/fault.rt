@@ -5,7 +5,7 @@ ghost use Rattle.card.specs.Fault.{fault_name, fault_number};
 // The one refusal of this crate: a word, or the numbers that were given, make no card.
 #[derive(Clone, Copy, PartialEq, Eq, Debug)]
 pub enum CardFault {
-    NoCard,
+    NoCard = 21,
 }
 
 impl CardFault {
@@ -13,9 +13,7 @@ impl CardFault {
     pub fn number(&self) -> u8
         ensures { result ≡ fault_number self.now }
     {
-        match self {
-            CardFault::NoCard => 21,
-        }
+        *self as u8
     }
 
     // The name that is printed beside the number: CARD.

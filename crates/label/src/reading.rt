@@ -28,7 +28,7 @@ fn read_pieces<P: WidthPlan>(plan: &P, word: Word) -> Result<WordReading, LabelF
         let spot = cursor.spot;
         let width = spot.width(plan);
         let piece = cursor.piece(width).ok_or(LabelFault::Short(spot.bit()))?;
-        if !piece.subvalue.may_stand() {
+        if !spot.takes(piece.subvalue) {
             return Err(LabelFault::Zero(spot.bit()));
         }
         let bits = spot.bit() + width;

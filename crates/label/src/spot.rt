@@ -1,8 +1,9 @@
 // Where a subvalue stands in a label.
 ghost use Rattle.std.specs.Prelude.{◌≡◌, ◌+◌, ◌-◌, ◌<◌, ◌≤◌};
-ghost use Rattle.label.specs.Label.{word_bits};
+ghost use Rattle.label.specs.Label.{word_bits, stands_at};
 ghost use Rattle.label.specs.Spelling.{level_after, position_after};
 
+use crate::subvalue::Subvalue;
 use crate::word::WORD_BITS;
 use plan::WidthPlan;
 
@@ -43,6 +44,13 @@ impl Spot {
         ensures high { result ≤ 8 }
     {
         plan.width(self.level, self.position)
+    }
+
+    // Whether a subvalue may stand here: one that ends its level must be at least 1.
+    pub(crate) fn takes(self, subvalue: Subvalue) -> bool
+        ensures { result ≡ stands_at self.position subvalue.value subvalue.ends_level }
+    {
+        !subvalue.ends_level || subvalue.value > 0
     }
 
     // The spot behind a subvalue of `width` bits and its separator.

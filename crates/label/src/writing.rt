@@ -8,7 +8,7 @@ use crate::subvalue::Subvalue;
 use crate::word::{Word, power};
 use plan::WidthPlan;
 
-// The value of the bits left at a spot that begin with a subvalue of `width` bits and have zeros behind it. None where there are fewer bits, it is too large, or it may not stand in a label.
+// The value of the bits left at a spot that begin with a subvalue of `width` bits and have zeros behind it. None where there are fewer bits, it is too large, or it may not stand there.
 fn place(subvalue: Subvalue, spot: Spot, width: u32) -> Option<Word>
     requires { (1 ≤ width) × (width ≤ 8) }
     ensures { Places width spot.left spot.position subvalue.value subvalue.ends_level result }
@@ -18,7 +18,7 @@ fn place(subvalue: Subvalue, spot: Spot, width: u32) -> Option<Word>
     if value >= power(width) {
         return None;
     }
-    if !subvalue.may_stand() {
+    if !spot.takes(subvalue) {
         return None;
     }
     Some(value * power(behind))

@@ -7,7 +7,7 @@ use std::fmt;
 #[derive(Clone, Copy, PartialEq, Eq, Debug)]
 pub enum PlanFault {
     // The list has no width, over 8, or one outside 1 to 8.
-    Unlawful,
+    Unlawful = 24,
 }
 
 impl PlanFault {
@@ -15,9 +15,7 @@ impl PlanFault {
     pub fn number(&self) -> u8
         ensures { result ≡ number_of self.now }
     {
-        match self {
-            PlanFault::Unlawful => 24,
-        }
+        *self as u8
     }
 
     // The refusal's name.

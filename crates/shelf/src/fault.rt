@@ -5,11 +5,11 @@ ghost use Rattle.shelf.specs.Fault.{number_of, name_of};
 #[derive(Clone, Copy, PartialEq, Eq, Debug)]
 pub enum ShelfFault {
     // A row with the label is there already.
-    Held,
+    Held = 3,
     // There is no room for another row.
-    Full,
+    Full = 4,
     // No row has the index.
-    Index,
+    Index = 5,
 }
 
 impl ShelfFault {
@@ -17,11 +17,7 @@ impl ShelfFault {
     pub fn number(&self) -> u8
         ensures { result ≡ number_of self.now }
     {
-        match self {
-            ShelfFault::Held => 3,
-            ShelfFault::Full => 4,
-            ShelfFault::Index => 5,
-        }
+        *self as u8
     }
 
     // The refusal's name.

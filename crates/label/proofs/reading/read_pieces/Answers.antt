@@ -23,14 +23,14 @@ returns-in_err-piece g c =
     let fault : c.in_err-piece.field-0.0 ≡ Short (word_bits - c.pieces.cursor.spot.left) = cc (short, c.bit.ensures) in
     rw (failed.1, failed.2, fault) is
 
-pub returns-then-not-may_stand : goal.returns-then-not-may_stand
-returns-then-not-may_stand g c =
-    let is = gather_zero _ word_bits _ c.width-width.ensures.is c.pieces.invariant (sym c.in_ok-piece.ensures.ok_part ∙ c.piece.ensures) (c.if-not-may_stand.ensures c.pieces.cursor.spot.position) in
-    cc (c.bit-then-not-may_stand.ensures)
+pub returns-then-not-takes : goal.returns-then-not-takes
+returns-then-not-takes g c =
+    let is = gather_zero _ word_bits _ c.width-width.ensures.is c.pieces.invariant (sym c.in_ok-piece.ensures.ok_part ∙ c.piece.ensures) c.if-not-takes.ensures in
+    cc (c.bit-then-not-takes.ensures)
 
 pub returns-in_default : goal.returns-in_default
 returns-in_default g c =
-    let is = gather_ends _ word_bits _ c.width-width.ensures.is c.pieces.invariant (sym c.in_ok-piece.ensures.ok_part ∙ c.piece.ensures) (c.if-not-may_stand.ensures c.pieces.cursor.spot.position) c.in_default.is in
+    let is = gather_ends _ word_bits _ c.width-width.ensures.is c.pieces.invariant (sym c.in_ok-piece.ensures.ok_part ∙ c.piece.ensures) c.if-not-takes.ensures c.in_default.is in
     cc (c.bit-in-pieces.ensures)
 
 pub behind-cursor-requires : goal.behind-cursor-requires
@@ -45,7 +45,7 @@ pieces-preserved-then-piece g c =
     let at = sym c.in_ok-piece.ensures.ok_part ∙ c.piece.ensures in
     let fits = behind_fits c.pieces.cursor.small at c.in-Some.is in
     let behind : word_bits - (c.bit-in-pieces.result + k) ≡ n - k = omega (arith, fits.0, c.bit-in-pieces.ensures, c.pieces.cursor.spot.within) in
-    gather_more _ word_bits _ c.width-width.ensures.is c.pieces.invariant at (c.if-not-may_stand.ensures c.pieces.cursor.spot.position) c.in-Some.is fits.0
+    gather_more _ word_bits _ c.width-width.ensures.is c.pieces.invariant at c.if-not-takes.ensures c.in-Some.is fits.0
     c.behind-cursor.ensures.left c.behind-cursor.ensures.rest c.behind-cursor.ensures.level c.behind-cursor.ensures.position
     (ap Some (c.padded.ensures ∙ ap (cut c.args.word) behind) ∙ sym (cond-true _ _ _ c.if-piece.true))
 
@@ -53,6 +53,6 @@ pub pieces-preserved : goal.pieces-preserved
 pieces-preserved g c =
     let at = sym c.in_ok-piece.ensures.ok_part ∙ c.piece.ensures in
     let fits = behind_fits c.pieces.cursor.small at c.in-Some.is in
-    gather_more _ word_bits _ c.width-width.ensures.is c.pieces.invariant at (c.if-not-may_stand.ensures c.pieces.cursor.spot.position) c.in-Some.is fits.0
+    gather_more _ word_bits _ c.width-width.ensures.is c.pieces.invariant at c.if-not-takes.ensures c.in-Some.is fits.0
     c.behind-cursor.ensures.left c.behind-cursor.ensures.rest c.behind-cursor.ensures.level c.behind-cursor.ensures.position
     (sym (cond-false _ _ _ c.if-piece.false))

@@ -4,8 +4,8 @@ use Rattle.label.specs.Label.{word_bits}
 use Rattle.label.proofs.Pieces.{in_front}
 use Rattle.label.proofs.writing.place.Goals as goal
 
-pub returns-then-not-may_stand : goal.returns-then-not-may_stand
-returns-then-not-may_stand c = λ room small stands. both_ways _ (sym (c.if-not-may_stand.ensures c.args.spot.position)) stands
+pub returns-then-not-takes : goal.returns-then-not-takes
+returns-then-not-takes c = λ room small stands. both_ways _ (sym c.if-not-takes.ensures) stands
 
 -- what is behind the subvalue
 behind : (c : goal.After-power-2) → c.power-2.result ≡ 2 ^ (c.args.spot.left - c.args.width)
@@ -25,6 +25,6 @@ pub returns : goal.returns
 returns c = (
   omega (arith, c.in_ok-behind.ensures),
   omega (arith, c.from-value.ensures, c.power.ensures, c.if-value-power.false),
-  sym (c.if-not-may_stand.ensures c.args.spot.position),
+  sym c.if-not-takes.ensures,
   rw (behind c, c.from-value.ensures),
 )
