@@ -14,9 +14,10 @@ use crate::bounded::Bounded;
 use crate::fault::CardFault;
 use crate::kind::Card;
 use std::fmt;
-use step_kind::StepKind;
 
 mod step_kind;
+
+pub use step_kind::StepKind;
 
 // The temperature in °C that a step heads for or keeps.
 pub type Target = Bounded<20, 1200>;

@@ -1,14 +1,15 @@
 // The programme that a furnace comes with: a full burnout of one flask, for gold.
+use card::firing::StepKind;
 use shelf::{Row, State};
 
 // A card word has a kind, a target in °C, a rate in °C per hour and a time in minutes, each at a place of its own.
-const SECTION: u64 = 1 << 48;
+const SECTION: u64 = (StepKind::Section as u64) << 48;
 
-const RAMP: u64 = 2 << 48;
+const RAMP: u64 = (StepKind::Ramp as u64) << 48;
 
-const HOLD: u64 = 3 << 48;
+const HOLD: u64 = (StepKind::Hold as u64) << 48;
 
-const COOL: u64 = 4 << 48;
+const COOL: u64 = (StepKind::Cool as u64) << 48;
 
 const DEGREES: u64 = 1 << 32;
 

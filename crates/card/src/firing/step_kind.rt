@@ -5,7 +5,7 @@ use crate::fault::CardFault;
 
 // What a step does, with its number.
 #[derive(Clone, Copy, PartialEq, Eq, Debug)]
-pub(super) enum StepKind {
+pub enum StepKind {
     Section = 1,
     Ramp = 2,
     Hold = 3,
