@@ -51,12 +51,6 @@ module _ (ls : List Link) (h n k p : ℕ) (r : Row) (in_chain : k < n) (here : p
   pub reset_inside : Inside ls h n → Inside (set ls p x) h n
   reset_inside inside j lt = let e = same_slot j in let i = inside j lt in omega arith
 
-  pub reset_stays : r.label ≡ (link_at ls p).row.label → (s : ℕ) → (link_at (set ls p x) s).row.label ≡ (link_at ls s).row.label
-  reset_stays same s = ⊎_elim
-      (λ e. ap (λ i. (link_at (set ls p x) i).row.label) e ∙ ap (λ l. l.row.label) (get_or-set_same ls p x blank_link in_ls) ∙ same
-      ∙ ap (λ i. (link_at ls i).row.label) (sym e))
-      (λ ne. ap (λ l. l.row.label) (get_or-set_other ls p s x blank_link ne)) (cases_eq s p)
-
   pub reset_rising : r.label ≡ (link_at ls p).row.label → Rising (walked (set ls p x) h n)
   reset_rising same =
       subst⁻¹ Rising reset_rows

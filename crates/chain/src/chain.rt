@@ -7,6 +7,7 @@ use crate::link::Link;
 
 // The list is what a walk of `len` steps from the slot `head` on visits. The first `len` slots are those in use; what the others hold is of no account.
 // A row is found by one walk, and put by one walk and one link that is turned.
+// Kept: there is no heap below the program, so the links lie in memory handed in, and a link names the next by its slot.
 #[derive(Drop)]
 pub struct Chain<'a> {
     links: &'a mut [Link],

@@ -39,10 +39,6 @@ rising_with_row rs r up absent i j h k =
           ⊎_elim (λ same. absurd (index_none rs r.label absent i q (omega arith))) (λ lt. lt)
           (cases_eq_lt r.label (label_at rs i) (rank_above rs r.label up i p q))
 
--- an insertion at the rank is a put
-pub inserted_is_put : (rs new : List Row) (r : Row) (k : ℕ) → new ≡ insert rs k r → k ≡ rank_of rs r.label → new ≡ with_row rs r
-inserted_is_put rs new r k e at_rank = e ∙ ap (λ n. insert rs n r) at_rank
-
 -- a row in the place of one with its label
 pub rising_set : (rs : List Row) (i : ℕ) (r : Row) → r.label ≡ label_at rs i → Rising rs → Rising (set rs i r)
 rising_set rs i r same up a b l k =

@@ -1,5 +1,4 @@
 pub mod Edits
-pub mod Fronts
 pub mod Halves
 pub mod Inserted
 pub mod Ranks

@@ -13,9 +13,6 @@ use Rattle.shelf.specs.Rows.{blank, label_at, Rising, RowAt, rank_of, one_on, in
 pub cases_eq_lt : (a b : ℕ) → a ≤ b → (a ≡ b) ⊎ (a < b)
 cases_eq_lt a b h = ⊎_elim inl (⊎_elim inr (λ k. inl (omega arith))) (cases_order a b)
 
-pub some_not_none : {X : Type 0} (o : Option X) (x : X) → o ≡ Some x → o ≡ None → ⊥
-some_not_none o x p q = let z : ◌≡◌ {A = ℕ} 0 1 = cc in omega arith
-
 -- the row at an index as std's `nth` tells it
 pub row_nth : (rs : List Row) (i : ℕ) (o : Option Row) → RowAt rs i o → o ≡ slice_get rs i
 row_nth rs i (Some r) (h, e) = sym (slice_get-get_or rs i blank h ∙ ap Some e)

@@ -25,11 +25,11 @@ pub trait Reading {
         ensures { RowAt (rows self.now) index result };
 
     // Where a label stands: `Ok` with the index of its row, or `Err` with the index that its row would have.
-    // By halving, for a shelf that is quick to answer a row.
+    // By halving, for a shelf that is quick to answer a row. A shelf that has its rows in a slice searches that.
     fn seek(&self, label: Word) -> Result<usize, usize>
         ensures { Sought (rows self.now) label result }
     {
-        // Kept: no rows lie side by side here for the library to search: a shelf is asked for one at a time. A shelf that has them in a slice searches that.
+        // Kept: the library searches slices alone, and a slice of these rows, made first, would ask for every row, where halving asks for eleven at most.
         let mut low = 0;
         let mut high = self.count();
         while low < high {

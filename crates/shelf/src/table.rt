@@ -6,6 +6,7 @@ use crate::row::Row;
 
 // The first `len` slots are the list, in its order; what the others hold is of no account.
 // A row is found by halving, and put by moving the rows behind it up by one slot.
+// Kept: there is no heap below the program, so the rows lie in memory handed in, and their number stands beside it.
 #[derive(Drop)]
 pub struct OrderedTable<'a> {
     slots: &'a mut [Row],

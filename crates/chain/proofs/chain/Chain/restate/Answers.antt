@@ -1,9 +1,9 @@
-use Rattle.std.proofs.Common.{◌<◌, min, length, set, sym, ap, ◌∙◌, arith}
+use Rattle.std.proofs.Common.{◌<◌, length, set, sym, ap, ◌∙◌, arith}
 use Rattle.std.proofs.lemmas.List.{length-set}
-use Rattle.shelf.specs.Rows.{most_rows, restated}
+use Rattle.shelf.specs.Rows.{restated}
 use Rattle.chain.specs.Chains.{chain_rows}
 use Rattle.chain.proofs.Walks.{length_walked}
-use Rattle.chain.proofs.Reset.{reset_rows, reset_inside, reset_rising, reset_stays}
+use Rattle.chain.proofs.Reset.{reset_rows, reset_inside, reset_rising}
 use Rattle.chain.proofs.chain.Chain.restate.Goals as goal
 
 pub invariant_of-self : goal.invariant_of-self
@@ -18,18 +18,13 @@ invariant_of-self c =
     (ap (λ r. r.label) c.restated.ensures) in
     record { few = chain.few; fits = simp length-set chain.fits; inside = inside; long = length_walked _ chain.head chain.len; rising = up }
 
-pub returns : goal.returns
-returns c =
+pub returns-clause-rows : goal.returns-clause-rows
+returns-clause-rows c =
     let chain = c.args.self.now in
     let ls = chain.links.now in
     let at = c.slot-at.result in
     let i = c.args.index in
     let h : i < chain.len = omega (arith, c.requires, chain.long) in
     let in_ls : at < length ls = omega (arith, c.slot-at.ensures.inside, chain.fits) in
-    record {
-      rows = reset_rows ls chain.head chain.len i at c.restated.result h c.slot-at.ensures.at in_ls chain.rising
-          ∙ ap (set (chain_rows chain) i) (c.restated.ensures ∙ ap (λ r. restated r c.args.state c.args.card) (sym c.slot-at.ensures.row));
-      capacity = ap (λ n. min n most_rows) (length-set ls at _);
-      stays = λ s lt. reset_stays ls chain.head chain.len i at c.restated.result h c.slot-at.ensures.at in_ls chain.rising
-          (ap (λ r. r.label) c.restated.ensures) s;
-    }
+    reset_rows ls chain.head chain.len i at c.restated.result h c.slot-at.ensures.at in_ls chain.rising
+    ∙ ap (set (chain_rows chain) i) (c.restated.ensures ∙ ap (λ r. restated r c.args.state c.args.card) (sym c.slot-at.ensures.row))
