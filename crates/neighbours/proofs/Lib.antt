@@ -1,4 +1,3 @@
-pub mod Children
 pub mod NextSiblings
 pub mod WordReads
 pub mod Belows

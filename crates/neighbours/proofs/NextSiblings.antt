@@ -1,5 +1,5 @@
 -- The next siblings of a new place, from the walks over the rows. Assumes nothing.
-use Rattle.std.proofs.Common.{◌≡◌, ℕ, zero, suc, ◌+◌, ◌<◌, ◌≤◌, List, [], ◌∷◌, length, Some, None, Ok, Err, Option, sym, refl, ap, ◌∙◌, subst, inl, inr, ⊎_elim, arith}
+use Rattle.std.proofs.Common.{◌≡◌, ℕ, ◌+◌, ◌<◌, ◌≤◌, List, Some, None, Ok, Err, Option, sym, ap, ◌∙◌, subst, ⊎_elim, arith}
 use Rattle.std.proofs.lemmas.Bool.{cases_lt, cases_order}
 use Rattle.shelf.specs.declared.row.Row.{Row}
 use Rattle.shelf.specs.Rows.{Rising, Sought, rank_of, label_at, row_at}
@@ -8,32 +8,21 @@ use Rattle.gap.specs.Labels.{Labels, Sound}
 use Rattle.laws.specs.declared.place.Where.{Where}
 use Rattle.laws.specs.declared.place.Where.TheVariants.{FirstUnder, LastUnder, Before, After}
 use Rattle.laws.specs.Openings.{Lower, Upper, ChildRow, NextLower, NextUpper}
-use Rattle.laws.specs.Standing.{Has}
+use Rattle.laws.proofs.Rows.{has_at, at_has}
 use Rattle.neighbours.specs.Children.{ChildAt, LastChild, FirstChild}
 use Rattle.neighbours.specs.Next.{Neighbours}
 use Rattle.neighbours.specs.Ranks.{Past}
-
--- a row of a list, by its index
-has_index : (rows : List Row) (r : Row) → Has rows r → (i : ℕ) × (i < length rows) × (row_at rows i ≡ r)
-has_index [] r h = absurd h
-has_index (s ∷ rows) r (inl e) = (0, omega arith, e)
-has_index (s ∷ rows) r (inr h) = let (i, inside, e) = has_index rows r h in (suc i, omega arith, e)
-
-index_has : (rows : List Row) (i : ℕ) → i < length rows → Has rows (row_at rows i)
-index_has [] i h = absurd (omega arith)
-index_has (s ∷ rows) zero h = inl refl
-index_has (s ∷ rows) (suc i) h = inr (index_has rows i (omega arith))
 
 module _ (L : Labels) (rows : List Row) (up : Rising rows) (a p : ℕ) where
   -- a child with a row, by the row's index, and back
   child_index : (c : ℕ) → ChildRow L rows p c → (i : ℕ) × ChildAt L rows p i × (label_at rows i ≡ c)
   child_index c ((r, has, e), par) =
-      let (i, inside, at) = has_index rows r has in
+      let (i, inside, at) = has_at rows r has in
       let is : label_at rows i ≡ c = ap (λ (q : Row). q.label) at ∙ e in
       (i, (inside, ap L.parent is ∙ par), is)
 
   child_row : (c i : ℕ) → ChildAt L rows p i → label_at rows i ≡ c → ChildRow L rows p c
-  child_row c i k e = ((row_at rows i, index_has rows i k.0, e), ap L.parent (sym e) ∙ k.1)
+  child_row c i k e = ((row_at rows i, at_has rows i k.0, e), ap L.parent (sym e) ∙ k.1)
 
   -- where the first `end` rows are those of the children that come to stand before the new place, the last child among them is the neighbour
   lower_from : (w : Where) (end : ℕ)

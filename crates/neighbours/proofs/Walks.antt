@@ -19,7 +19,7 @@ use Rattle.gap.specs.Labels.{Labels, Sound}
 use Rattle.neighbours.specs.Below.{InUse, LedEnd, Occupied}
 use Rattle.neighbours.specs.Ranks.{Past}
 use Rattle.neighbours.specs.Children.{ChildrenEnd, FirstChild, LastChild}
-use Rattle.neighbours.proofs.Children.{not_above}
+use Rattle.shelf.proofs.Ranks.{cases_eq_lt}
 
 -- what a closure makes of an optional value
 pub mapped : {A B : Type 0} (Made : A → B → Type 0) (f : A → B) → ((x : A) (y : B) → Made x y → y ≡ f x) → (o : Option A) (q : Option B)
@@ -48,6 +48,10 @@ passing test rows = take (prefix_len test rows) rows
 -- a row that is in use, with a lawful label
 abbrev pub IsUsed : Labels → Row → Type 0
 IsUsed L r = InUse r.state × T (L.lawful r.label)
+
+-- labels rise with the index
+pub not_above : (rows : List Row) → Rising rows → (i j : ℕ) → i ≤ j → j < length rows → label_at rows i ≤ label_at rows j
+not_above rows up i j h inside = ⊎_elim (λ e. omega (arith, ap (label_at rows) e)) (λ less. omega (arith, up i j less inside)) (cases_eq_lt i j h)
 
 -- a stretch and its rows
 length-stretch : (rows : List Row) (a b : ℕ) → length (stretch rows a b) ≡ min (b - a) (length rows - a)

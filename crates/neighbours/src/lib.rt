@@ -6,7 +6,9 @@ mod child;
 mod next;
 mod planned;
 mod rank;
+mod site;
 mod words;
 
 pub use planned::PlannedShelf;
-pub use words::{is_label, parent_of};
+pub use site::Site;
+pub use words::is_label;

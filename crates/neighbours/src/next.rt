@@ -4,6 +4,7 @@ ghost use Rattle.neighbours.specs.Planned.{labels, rows};
 
 use crate::planned::PlannedShelf;
 use crate::rank::rank_past;
+use crate::site::Site;
 use crate::words::led_up_to;
 use gap::Bounds;
 use label::Word;
@@ -12,10 +13,10 @@ use plan::WidthPlan;
 use shelf::Reading;
 
 impl<'a, P: WidthPlan, S: Reading> PlannedShelf<'a, P, S> {
-    // The next lower and the next upper sibling of a new place under `parent`, opened at `label`: of the parent's children with a row, in whatever state, the last that comes to stand before it
+    // The next lower and the next upper sibling of a new place under `parent`: of the parent's children with a row, in whatever state, the last that comes to stand before it
     // and the first behind it. A word that is no label, or has no room below it, has no children.
-    pub fn neighbours(&self, place: Where, label: Word, parent: Word) -> Bounds
-        ensures { Neighbours (labels P.WidthPlan self.now) (rows S.Reading self.now) place label parent result }
+    pub fn neighbours(&self, site: Site, parent: Word) -> Bounds
+        ensures { Neighbours (labels P.WidthPlan self.now) (rows S.Reading self.now) site.place site.label parent result }
     {
         let Some(end) = led_up_to(self.plan, parent) else {
             return Bounds {
@@ -23,7 +24,7 @@ impl<'a, P: WidthPlan, S: Reading> PlannedShelf<'a, P, S> {
                 upper: None,
             };
         };
-        match place {
+        match site.place {
             Where::FirstUnder => {
                 let start = self.shelf.rank(parent);
                 Bounds {
@@ -35,8 +36,8 @@ impl<'a, P: WidthPlan, S: Reading> PlannedShelf<'a, P, S> {
                 lower: self.last_child(parent, self.shelf.rank(end)),
                 upper: None,
             },
-            Where::Before => self.children_around(parent, end, self.shelf.rank(label)),
-            Where::After => self.children_around(parent, end, rank_past(self.shelf, label)),
+            Where::Before => self.children_around(parent, end, self.shelf.rank(site.label)),
+            Where::After => self.children_around(parent, end, rank_past(self.shelf, site.label)),
         }
     }
 }

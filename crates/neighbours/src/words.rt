@@ -9,7 +9,7 @@ use label::{Word, led_end, read};
 use plan::WidthPlan;
 
 // The parent of a word's label: none at level 1, and for a word that is no label's.
-pub fn parent_of<P: WidthPlan>(plan: &P, word: Word) -> Option<Word>
+pub(crate) fn parent_of<P: WidthPlan>(plan: &P, word: Word) -> Option<Word>
     ensures { (labels_of (P.width plan.now) word_bits).parent word ≡ result }
 {
     read(plan, word).ok()?.parent

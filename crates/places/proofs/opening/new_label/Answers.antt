@@ -11,7 +11,7 @@ use Rattle.places.proofs.opening.new_label.Goals as goal
 pub unreachable-requires : goal.unreachable-requires
 unreachable-requires g c =
     let parent = c.in_ok-parent.ensures in
-    parent_reads (g.P.WidthPlan.width c.args.planned.now.plan.now) word_bits (rows g.S.Reading c.args.planned.now) c.args.label c.args.place parent.0
+    parent_reads (g.P.WidthPlan.width c.args.planned.now.plan.now) word_bits (rows g.S.Reading c.args.planned.now) c.args.site.label c.args.site.place parent.0
     c.in_ok-parent.parent parent.1 c.in_default.field-0 c.in_default.ensures
 
 pub returns : goal.returns
@@ -21,6 +21,6 @@ returns g c =
     let rs = rows g.S.Reading c.args.planned.now in
     let S = plan_sound (g.P.WidthPlan.width plan) (g.met.P.WidthPlan.low plan) (g.met.P.WidthPlan.high plan) in
     let parent = c.in_ok-parent.ensures in
-    subst (Checked (place_checks L rs c.args.label c.args.place) (λ (x : ℕ). LabelFor L rs c.args.place c.args.label (Some x))) (sym c.ok_or.ensures.value)
-    (label_found L S rs c.args.label c.args.place parent.0 c.in_ok-parent.parent parent.1 c.neighbours-bounds.result.lower c.neighbours-bounds.result.upper c.neighbours-bounds.ensures
+    subst (Checked (place_checks L rs c.args.site.label c.args.site.place) (λ (x : ℕ). LabelFor L rs c.args.site.place c.args.site.label (Some x))) (sym c.ok_or.ensures.value)
+    (label_found L S rs c.args.site.label c.args.site.place parent.0 c.in_ok-parent.parent parent.1 c.neighbours-bounds.result.lower c.neighbours-bounds.result.upper c.neighbours-bounds.ensures
     c.in-Ok.choice c.in-Ok.ensures)
