@@ -1,15 +1,15 @@
 -- The words of firing cards.
-use Rattle.std.specs.Prelude.{◌≡◌, ℕ, ◌/◌, ◌%◌, ◌^◌, ◌<◌, ◌&&◌, Some, None, Option, ◌==◌, refl}
+use Rattle.std.specs.Prelude.{◌≡◌, ℕ, ◌/◌, ◌%◌, ◌^◌, ◌<◌, ◌&&◌, Some, Option, ◌==◌, refl}
 use Rattle.std.proofs.Common.{inl, inr, sym, ap, ◌∙◌, arith}
 use Rattle.std.proofs.lemmas.Bool.{cond_both}
 use Rattle.std.proofs.lemmas.Bool.Decides.{nat_tests}
-use Rattle.card.specs.Ranges.{some_bounded, value_of_bounded}
+use Rattle.card.specs.Ranges.{some_bounded, from_both}
 use Rattle.card.specs.Readings.{reads_word}
 use Rattle.card.specs.Bounds.{both, bounded}
 use Rattle.card.specs.Reading.{Reads}
 use Rattle.card.specs.declared.fault.CardFault.TheVariants.{NoCard}
 use Rattle.std.specs.Option.{ok_or}
-use Rattle.card.specs.Firing.{LawfulWord, card_of, code, cool_of, decode, hold_of, packed, ramp_of}
+use Rattle.card.specs.Firing.{LawfulWord, card_of, code, decode, packed}
 use Rattle.card.specs.declared.bounded.Bounded.{Bounded}
 use Rattle.card.specs.declared.firing.FiringCard.{FiringCard}
 use Rattle.card.specs.declared.firing.FiringCard.TheVariants.{Section, Ramp, Hold, Cool}
@@ -34,35 +34,19 @@ round (Cool t r) = read 4 t.value r.value 0 (omega arith) (omega arith) (omega a
 repacked : (w : ℕ) → packed (w / 2 ^ 48) (w / 2 ^ 32 % 2 ^ 16) (w / 2 ^ 16 % 2 ^ 16) (w % 2 ^ 16) ≡ w
 repacked w = omega arith
 
--- two bounded numbers that make a card, and what they are
-made_of : (low high low' high' n m : ℕ) (f : Bounded low high → Bounded low' high' → FiringCard) (c : FiringCard) → both f (bounded low high n) (bounded low' high' m) ≡ Some c
-    → (a : Bounded low high) × (b : Bounded low' high') × (f a b ≡ c) × (a.value ≡ n) × (b.value ≡ m)
-made_of low high low' high' n m f c = by_both (bounded low high n) (bounded low' high' m) refl refl
-  where
-    by_both : (x : Option (Bounded low high)) (y : Option (Bounded low' high')) → bounded low high n ≡ x → bounded low' high' m ≡ y → both f x y ≡ Some c
-        → (a : Bounded low high) × (b : Bounded low' high') × (f a b ≡ c) × (a.value ≡ n) × (b.value ≡ m)
-    by_both (Some a) (Some b) p q e = (a, b, cc, value_of_bounded low high n a p, value_of_bounded low' high' m b q)
-    by_both (Some a) None p q e = let z : ◌≡◌ {A = ℕ} 0 1 = cc in absurd (omega arith)
-    by_both None y p q e = let z : ◌≡◌ {A = ℕ} 0 1 = cc in absurd (omega arith)
-
--- a ramp, a hold or a cooling has the word of the numbers that made it
-word_of_ramp : (t r : ℕ) (c : FiringCard) → ramp_of t r ≡ Some c → code c ≡ packed 2 t r 0
-word_of_ramp t r c e = let p = made_of 20 1200 1 600 t r Ramp c e in sym (ap code p.2) ∙ rw (p.3, p.4)
-
-word_of_hold : (t m : ℕ) (c : FiringCard) → hold_of t m ≡ Some c → code c ≡ packed 3 t 0 m
-word_of_hold t m c e = let p = made_of 20 1200 1 1440 t m Hold c e in sym (ap code p.2) ∙ rw (p.3, p.4)
-
-word_of_cool : (t r : ℕ) (c : FiringCard) → cool_of t r ≡ Some c → code c ≡ packed 4 t r 0
-word_of_cool t r c e = let p = made_of 20 1200 1 600 t r Cool c e in sym (ap code p.2) ∙ rw (p.3, p.4)
+-- what two numbers within bounds make, if anything, has the word of those numbers
+word_of_two : (low high low' high' n m : ℕ) (f : Bounded low high → Bounded low' high' → FiringCard) (word : ℕ → ℕ → ℕ) → ((a : Bounded low high) (b : Bounded low' high') → code (f a b) ≡ word a.value b.value)
+    → (c : FiringCard) → both f (bounded low high n) (bounded low' high' m) ≡ Some c → code c ≡ word n m
+word_of_two low high low' high' n m f word is c = from_both low high low' high' n m f (λ o. o ≡ Some c → code c ≡ word n m) (λ e. cc) (λ a b p q e. let made : f a b ≡ c = cc in sym (ap code made) ∙ is a b ∙ rw (p, q))
 
 -- what four numbers make, if anything, has the word of those numbers
 word_of_parts : (k t r m : ℕ) (c : FiringCard) → card_of k t r m ≡ Some c → code c ≡ packed k t r m
 word_of_parts k t r m c =
     let P : Option FiringCard → Type 0 = λ o. o ≡ Some c → code c ≡ packed k t r m in
     cond_both (k == 1 && (t == 0 && (r == 0 && m == 0))) _ _ P (λ b e. let s : Section ≡ c = cc in sym (ap code s) ∙ grind (arith, nat_tests))
-    (λ _. cond_both (k == 2 && m == 0) _ _ P (λ b e. word_of_ramp t r c e ∙ grind (arith, nat_tests))
-    (λ _. cond_both (k == 3 && r == 0) _ _ P (λ b e. word_of_hold t m c e ∙ grind (arith, nat_tests))
-    (λ _. cond_both (k == 4 && m == 0) _ _ P (λ b e. word_of_cool t r c e ∙ grind (arith, nat_tests))
+    (λ _. cond_both (k == 2 && m == 0) _ _ P (λ b e. word_of_two 20 1200 1 600 t r Ramp (λ x y. packed 2 x y 0) (λ a b. refl) c e ∙ grind (arith, nat_tests))
+    (λ _. cond_both (k == 3 && r == 0) _ _ P (λ b e. word_of_two 20 1200 1 1440 t m Hold (λ x y. packed 3 x 0 y) (λ a b. refl) c e ∙ grind (arith, nat_tests))
+    (λ _. cond_both (k == 4 && m == 0) _ _ P (λ b e. word_of_two 20 1200 1 600 t r Cool (λ x y. packed 4 x y 0) (λ a b. refl) c e ∙ grind (arith, nat_tests))
     (λ _ e. cc))))
 
 -- a word makes at most the card whose word it is

@@ -7,4 +7,5 @@ pub mod Reading
 pub mod FiringWords
 pub mod Ranges
 pub mod Readings
+pub mod StepKinds
 pub mod MenuWords

@@ -1,12 +1,11 @@
 -- The words of menu cards.
-use Rattle.std.specs.Prelude.{◌≡◌, ◌≢◌, ℕ, ◌+◌, ◌/◌, ◌%◌, ◌^◌, ◌<◌, ◌≤◌, Bool, true, false, leb, Some, None, Option, nat_le, refl}
-use Rattle.std.proofs.Common.{sym, ap, ◌∙◌, arith}
+use Rattle.std.specs.Prelude.{◌≡◌, ℕ, ◌+◌, ◌/◌, ◌%◌, ◌^◌, ◌<◌, ◌≤◌, Bool, true, false, leb, Some, nat_le, refl}
+use Rattle.std.proofs.Common.{sym, ap, subst, ◌∙◌, arith}
 use Rattle.std.proofs.Math.Bridge.{le_prop}
-use Rattle.card.specs.Ranges.{some_bounded, value_of_bounded}
+use Rattle.card.specs.Ranges.{some_bounded, from_both}
 use Rattle.card.specs.Readings.{reads_word}
 use Rattle.card.specs.Reading.{Reads}
 use Rattle.card.specs.declared.fault.CardFault.TheVariants.{NoCard}
-use Rattle.card.specs.Bounds.{both, bounded}
 use Rattle.card.specs.Menu.{LawfulWord, code, decode, menu_of, packed, placed, placed_by}
 use Rattle.card.specs.declared.bounded.Bounded.{Bounded}
 use Rattle.card.specs.declared.menu.MenuCard.{MenuCard}
@@ -28,13 +27,6 @@ some_placed c = by_test (nat_le (c.start + c.length.value) 65535) refl
 pub some_menu : (c : MenuCard) (length action : ℕ) → c.length.value ≡ length → c.action.value ≡ action → menu_of c.start length action ≡ Some c
 some_menu c length action el ea = rw (← el, ← ea, some_bounded 1 24 c.length, some_bounded 0 999 c.action) (some_placed c)
 
--- a card's word is not 0, since its length is at least 1, and it fits 64 bits
-pub nonzero : (c : MenuCard) → code c ≢ 0
-nonzero c e = omega (arith, c.length.ok.0)
-
-pub fits : (c : MenuCard) → code c < 2 ^ 64
-fits c = omega (arith, c.ok, c.length.ok.1, c.action.ok.1)
-
 -- the parts of a word that was packed
 packed_parts : (s l a : ℕ) → l < 2 ^ 16 → a < 2 ^ 16
     → (packed s l a / 2 ^ 32 ≡ s) × (packed s l a / 2 ^ 16 % 2 ^ 16 ≡ l) × (packed s l a % 2 ^ 16 ≡ a)
@@ -52,16 +44,11 @@ round c =
 
 -- what three numbers make, if anything, has the word of those numbers
 word_of_menu : (s l a : ℕ) (c : MenuCard) → menu_of s l a ≡ Some c → code c ≡ packed s l a
-word_of_menu s l a c = by_both (bounded 1 24 l) (bounded 0 999 a) refl refl
+word_of_menu s l a c = from_both 1 24 0 999 l a (placed s) (λ o. option_flatten o ≡ Some c → code c ≡ packed s l a) (λ e. cc) (λ x y p q. subst (λ n. placed s x y ≡ Some c → code c ≡ n) (rw (p, q) refl) (by_test x y (nat_le (s + x.value) 65535) refl))
   where
     by_test : (x : Bounded 1 24) (y : Bounded 0 999) (t : Bool) (e : leb (s + x.value) 65535 ≡ t) → placed_by s x y t e ≡ Some c → code c ≡ packed s x.value y.value
     by_test x y true e p = let q : with_proof s x y (leb-true (s + x.value) 65535 e) ≡ c = cc in sym (ap code q)
     by_test x y false e p = cc
-
-    by_both : (x : Option (Bounded 1 24)) (y : Option (Bounded 0 999)) → bounded 1 24 l ≡ x → bounded 0 999 a ≡ y → option_flatten (both (placed s) x y) ≡ Some c → code c ≡ packed s l a
-    by_both (Some x) (Some y) p q e = by_test x y (nat_le (s + x.value) 65535) refl e ∙ rw (value_of_bounded 1 24 l x p, value_of_bounded 0 999 a y q)
-    by_both (Some x) None p q e = cc
-    by_both None y p q e = cc
 
 -- a word makes at most the card whose word it is
 pub own : (w : ℕ) (c : MenuCard) → decode w ≡ Some c → code c ≡ w

@@ -1,9 +1,9 @@
 -- Numbers within bounds, and the bounded numbers that they make.
-use Rattle.std.specs.Prelude.{◌≡◌, ℕ, ◌≤◌, Bool, true, false, Some, nat_le, refl}
+use Rattle.std.specs.Prelude.{◌≡◌, ℕ, ◌≤◌, Bool, true, false, Some, None, Option, nat_le, refl}
 use Rattle.std.proofs.Common.{ap, ◌∙◌}
 use Rattle.std.proofs.Math.Bridge.{le_prop}
 use Rattle.std.proofs.lemmas.Bool.{and_from, both_ways, le-leb}
-use Rattle.card.specs.Bounds.{bounded, bounded_by, within}
+use Rattle.card.specs.Bounds.{both, bounded, bounded_by, within}
 use Rattle.card.specs.declared.bounded.Bounded.{Bounded}
 
 abbrev with_proofs : (low high n : ℕ) → low ≤ n → n ≤ high → Bounded low high
@@ -27,3 +27,13 @@ value_of_bounded low high n b = by_test (within low high n) refl
     by_test : (t : Bool) (e : within low high n ≡ t) → bounded_by low high n t e ≡ Some b → b.value ≡ n
     by_test true e s = cc
     by_test false e s = cc
+
+-- what is true of nothing, and of what f makes of each two bounded numbers with the values n and m, is true of what f makes of n and m
+pub from_both : {C : Type 0} (low high low' high' n m : ℕ) (f : Bounded low high → Bounded low' high' → C) (P : Option C → Type 0) → P None
+    → ((a : Bounded low high) (b : Bounded low' high') → a.value ≡ n → b.value ≡ m → P (Some (f a b))) → P (both f (bounded low high n) (bounded low' high' m))
+from_both low high low' high' n m f P none some = by_both (bounded low high n) (bounded low' high' m) (value_of_bounded low high n) (value_of_bounded low' high' m)
+  where
+    by_both : (x : Option (Bounded low high)) (y : Option (Bounded low' high')) → ((a : Bounded low high) → x ≡ Some a → a.value ≡ n) → ((b : Bounded low' high') → y ≡ Some b → b.value ≡ m) → P (both f x y)
+    by_both (Some a) (Some b) p q = some a b (p a refl) (q b refl)
+    by_both (Some a) None p q = none
+    by_both None y p q = none

@@ -1,8 +1,9 @@
 // Firing cards: the steps of a firing.
 ghost use Rattle.std.specs.Prelude.{◌≡◌, Some};
 ghost use Rattle.card.specs.Bounds.{Within};
-ghost use Rattle.card.specs.Firing.{LawfulWord, card_of, code, cool_of, decode, hold_of, packed, ramp_of, written};
+ghost use Rattle.card.specs.Firing.{LawfulWord, code, cool_of, decode, hold_of, packed, ramp_of, written};
 ghost use Rattle.card.specs.Reading.{Reads};
+ghost use Rattle.card.specs.StepKinds.{number};
 ghost use Rattle.card.specs.declared.fault.CardFault.TheVariants.{NoCard};
 ghost use Rattle.card.specs.declared.firing.FiringCard.TheVariants.{Section};
 ghost use Rattle.std.specs.Option.{ok_or};
@@ -13,6 +14,9 @@ use crate::bounded::Bounded;
 use crate::fault::CardFault;
 use crate::kind::Card;
 use std::fmt;
+use step_kind::StepKind;
+
+mod step_kind;
 
 // The temperature in °C that a step heads for or keeps.
 pub type Target = Bounded<20, 1200>;
@@ -24,7 +28,6 @@ pub type Rate = Bounded<1, 600>;
 pub type Minutes = Bounded<1, 1440>;
 
 // A step of a firing. Its numbers are within their bounds by their types, so every value is a lawful card.
-// In a card's word the kinds are numbered: 1 section, 2 ramp, 3 hold, 4 cool.
 #[derive(Clone, Copy, PartialEq, Eq, Debug)]
 pub enum FiringCard {
     // The head of a part of the firing; it asks nothing of the furnace.
@@ -44,6 +47,8 @@ impl FiringCard {
     {
         Self::Section
     }
+
+    // Kept: `ramp` and `cool` differ in the variant alone, but over a shared function each would be longer: `let (target, rate) = slope(target, rate)?; Ok(FiringCard::Ramp(target, rate))`.
 
     // `made` says which card comes of which numbers. `lawful` says it by ranges: a card comes exactly when both numbers
     // lie in theirs, and it is the card with the word that the numbers make. So it is for the two calls below.
@@ -74,40 +79,17 @@ impl FiringCard {
 }
 
 // The word of a kind and three numbers of 16 bits.
-fn pack(kind: u16, target: u16, rate: u16, minutes: u16) -> u64
-    ensures { result ≡ packed kind target rate minutes }
+fn pack(kind: StepKind, target: u16, rate: u16, minutes: u16) -> u64
+    ensures { result ≡ packed (number kind) target rate minutes }
 {
-    u64::from(kind) * 0x1_0000_0000_0000
+    kind as u64 * 0x1_0000_0000_0000
         + u64::from(target) * 0x1_0000_0000
         + u64::from(rate) * 0x1_0000
         + u64::from(minutes)
 }
 
-// The card that a kind and three numbers make. A number that has no meaning for the kind must be 0.
-fn card_of(kind: u64, target: u64, rate: u64, minutes: u64) -> Result<FiringCard, CardFault>
-    ensures { result ≡ ok_or (card_of kind target rate minutes) NoCard }
-{
-    match (kind, target, rate, minutes) {
-        (1, 0, 0, 0) => Ok(FiringCard::section()),
-        (2, target, rate, 0) => FiringCard::ramp(target, rate),
-        (3, target, 0, minutes) => FiringCard::hold(target, minutes),
-        (4, target, rate, 0) => FiringCard::cool(target, rate),
-        _ => Err(CardFault::NoCard),
-    }
-}
-
-// The card that a word makes: each number is read from 16 bits, and the kind from all that is above them.
-fn card_in(word: u64) -> Result<FiringCard, CardFault>
-    ensures { result ≡ ok_or (decode word) NoCard }
-{
-    let kind = word / 0x1_0000_0000_0000;
-    let target = word / 0x1_0000_0000 % 0x1_0000;
-    let rate = word / 0x1_0000 % 0x1_0000;
-    let minutes = word % 0x1_0000;
-    card_of(kind, target, rate, minutes)
-}
-
-// The word is kind × 2^48 + target × 2^32 + rate × 2^16 + minutes, with 0 for a number that the card has not.
+// The word is kind × 2^48 + target × 2^32 + rate × 2^16 + minutes, with 0 for a number that the card has not. So each number
+// is read from 16 bits, and the kind from all that is above them.
 // A word makes a card exactly when it is lawful: the word of a section, or of a ramp, hold or cooling whose numbers
 // lie in their ranges.
 impl Card for FiringCard {
@@ -119,24 +101,41 @@ impl Card for FiringCard {
 
     ghost fits = { Prim.search rules };
 
-    ghost round = { λ c. FiringWords.round c };
+    ghost round = { FiringWords.round };
 
-    ghost own = { λ w c e. FiringWords.own w c e };
+    ghost own = { FiringWords.own };
 
     fn word(self) -> u64 {
         match self {
-            FiringCard::Section => pack(1, 0, 0, 0),
-            FiringCard::Ramp(target, rate) => pack(2, target.get(), rate.get(), 0),
-            FiringCard::Hold(target, minutes) => pack(3, target.get(), 0, minutes.get()),
-            FiringCard::Cool(target, rate) => pack(4, target.get(), rate.get(), 0),
+            FiringCard::Section => pack(StepKind::Section, 0, 0, 0),
+            FiringCard::Ramp(target, rate) => pack(StepKind::Ramp, target.get(), rate.get(), 0),
+            FiringCard::Hold(target, minutes) => pack(
+                StepKind::Hold,
+                target.get(),
+                0,
+                minutes.get(),
+            ),
+            FiringCard::Cool(target, rate) => pack(StepKind::Cool, target.get(), rate.get(), 0),
         }
     }
 
+    #[tactic(auto, using(crate::specs::FiringWords::reads_lawful))]
     fn from_word(word: u64) -> Result<FiringCard, CardFault>
         ensures made { result ≡ ok_or (decode word) NoCard }
         ensures lawful { Reads code (LawfulWord word) word result }
     {
-        card_in(word)
+        let kind = StepKind::try_from(word / 0x1_0000_0000_0000)?;
+        let target = word / 0x1_0000_0000 % 0x1_0000;
+        let rate = word / 0x1_0000 % 0x1_0000;
+        let minutes = word % 0x1_0000;
+        // A number that has no meaning for the kind must be 0.
+        match (kind, target, rate, minutes) {
+            (StepKind::Section, 0, 0, 0) => Ok(FiringCard::section()),
+            (StepKind::Ramp, target, rate, 0) => FiringCard::ramp(target, rate),
+            (StepKind::Hold, target, 0, minutes) => FiringCard::hold(target, minutes),
+            (StepKind::Cool, target, rate, 0) => FiringCard::cool(target, rate),
+            _ => Err(CardFault::NoCard),
+        }
     }
 }
 

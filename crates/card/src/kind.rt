@@ -40,18 +40,11 @@ pub fn again<C: Card>(card: C) -> Result<C, CardFault>
     C::from_word(card.word())
 }
 
-// Whether the word can be read as a card.
-fn reads<C: Card>(word: u64) -> bool
-    ensures { result ≡ is_some (C.decode word) }
-{
-    C::from_word(word).is_ok()
-}
-
 // Whether the word makes a card: exactly when it is the word of one.
 pub fn makes_card<C: Card>(word: u64) -> bool
     ensures { Decides result ((c : C) × (C.code c ≡ word)) }
 {
-    reads::<C>(word)
+    C::from_word(word).is_ok()
 }
 
 // Whether two cards are the same: exactly when their words are.

@@ -1,5 +1,5 @@
 -- A link hooked into a chain is a row inserted into its list. Assumes nothing.
-use Rattle.std.proofs.Common.{◌≡◌, ℕ, zero, suc, ◌+◌, ◌-◌, ◌<◌, ◌≤◌, ◌≢◌, ◌⊎◌, List, length, get_or, set, Some, None, sym, refl, ap, ◌∙◌, subst, inl, inr, ⊎_elim, add-one, arith}
+use Rattle.std.proofs.Common.{◌≡◌, ℕ, zero, suc, ◌+◌, ◌-◌, ◌<◌, ◌≤◌, ◌≢◌, ◌⊎◌, List, length, get_or, set, Some, None, Option, sym, refl, ap, ◌∙◌, subst, inl, inr, ⊎_elim, add-one, arith}
 use mathlib.Core.Path.{subst⁻¹}
 use Rattle.std.specs.List.{insert}
 use Rattle.std.proofs.lemmas.Bool.{cases_lt, cases_eq}
@@ -12,7 +12,8 @@ use Rattle.shelf.proofs.Inserted.{At, low, here, high, at}
 use Rattle.shelf.proofs.Ranks.{cases_eq_lt, rank_le}
 use Rattle.chain.specs.declared.link.Link.{Link}
 use Rattle.chain.specs.Links.{link_of, blank_link, link_at, slot_at, walked}
-use Rattle.chain.specs.Chains.{SlotBefore}
+use Rattle.chain.specs.declared.chain.Chain.{Chain}
+use Rattle.chain.specs.Chains.{chain_rows, SlotBefore, ComesBehind}
 use Rattle.chain.proofs.Walks.{length_walked, slot_suc, get_or_walked, slot_once}
 
 -- all slots of a walk of n steps are below n
@@ -185,12 +186,12 @@ module _ (ls : List Link) (h n k : ℕ) (r : Row) (room : n < length ls) (in_cha
   }
 
 -- the row behind which another comes is in use
-pub behind_inside : (ls : List Link) (h n : ℕ) (r : Row) → Inside ls h n → (p : ℕ) → SlotBefore ls h (rank_of (walked ls h n) r.label) (Some p) → p < n
-behind_inside ls h n r inside p e =
-    let le = rank_le (walked ls h n) r.label in
-    let len = length_walked ls h n in
-    let lt = inside (rank_of (walked ls h n) r.label - 1) (omega (arith, e.0)) in
-    omega (arith, e.1)
+pub behind_inside : (c : Chain) (r : Row) (before : Option ℕ) (p : ℕ) → before ≡ Some p → ComesBehind c r.label before → p < c.len
+behind_inside c r before p e behind =
+    let at = subst (ComesBehind c r.label) e behind in
+    let le = rank_le (chain_rows c) r.label in
+    let lt = c.inside (rank_of (chain_rows c) r.label - 1) (omega (arith, at.0, c.long)) in
+    omega (arith, at.1)
 
 -- what a row hooked in at its rank makes of the chain
 module _ (ls : List Link) (h n : ℕ) (r : Row) (room : n < length ls) (inside : Inside ls h n) where

@@ -73,11 +73,12 @@ module _ (ls : List Link) (h n l k slot : ℕ) (before : Option ℕ) (p : Passed
   seat_behind e = subst (λ (i : ℕ). SlotBefore ls h i before) e p.behind
 
   -- no row has the label where the walk has come to the end ..
-  pub vacant_past : n ≤ k → Sought (walked ls h n) l (Err k) × SlotBefore ls h (rank_of (walked ls h n) l) before
+  pub vacant_past : n ≤ k → Sought (walked ls h n) l (Err n) × SlotBefore ls h (rank_of (walked ls h n) l) before
   vacant_past end =
+      let all : k ≡ n = omega (arith, p.within) in
       let len = length_walked ls h n in
       let absent = absent_is (walked ls h n) l k (omega (arith, p.within)) p.below (λ i q m. omega arith) in
-      (absent, seat_behind absent.1)
+      ((absent.0, sym all ∙ absent.1), seat_behind absent.1)
 
   module _ (up : Rising (walked ls h n)) (room : k < n) where
     -- .. or to a greater label ..

@@ -1,12 +1,11 @@
 -- What a chain means: the rows walked from its head; and what one walk finds out about a label. Assumes nothing.
-use Rattle.std.specs.Prelude.{◌≡◌, ℕ, ◌-◌, ◌<◌, ◌≤◌, min, List, length, Some, None, Ok, Err, Option}
+use Rattle.std.specs.Prelude.{◌≡◌, ℕ, ◌-◌, ◌<◌, ◌≤◌, min, List, length, Some, None, Ok, Err, Option, Result}
 use Rattle.std.proofs.Common.{arith}
 use Rattle.shelf.specs.declared.row.Row.{Row}
 use Rattle.shelf.specs.Rows.{most_rows, LawfulRows, rank_of, Sought}
 use Rattle.chain.specs.declared.chain.Chain.{Chain}
 use Rattle.chain.specs.declared.link.Link.{Link}
-use Rattle.chain.specs.declared.seat.Seat.{Seat}
-use Rattle.chain.specs.declared.seat.Seat.TheVariants.{Held, Vacant}
+use Rattle.chain.specs.declared.vacancy.Vacancy.{Vacancy}
 use Rattle.chain.specs.Links.{link_at, slot_at, walked}
 
 abbrev pub chain_rows : Chain → List Row
@@ -35,9 +34,9 @@ abbrev pub ComesBehind : Chain → (l : ℕ) → Option ℕ → Type 0
 ComesBehind c l before = SlotBefore c.links.now c.head (rank_of (chain_rows c) l) before
 
 -- what a walk finds out about the label l
-abbrev pub Seated : Chain → (l : ℕ) → Seat → Type 0
-Seated c l (Held i) = Sought (chain_rows c) l (Ok i)
-Seated c l (Vacant i before) = Sought (chain_rows c) l (Err i) × ComesBehind c l before
+abbrev pub Seated : Chain → (l : ℕ) → Result ℕ Vacancy → Type 0
+Seated c l (Ok i) = Sought (chain_rows c) l (Ok i)
+Seated c l (Err v) = Sought (chain_rows c) l (Err v.index) × ComesBehind c l v.before
 
 -- each row that the chain had is still in its slot; which row it is, its label tells
 abbrev pub Stays : (old new : Chain) → Type 0

@@ -3,7 +3,7 @@
 
 mod chain;
 mod link;
-mod seat;
+mod vacancy;
 
 pub use chain::Chain;
 pub use link::Link;

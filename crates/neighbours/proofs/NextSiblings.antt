@@ -1,9 +1,9 @@
 -- The next siblings of a new place, from the walks over the rows. Assumes nothing.
-use Rattle.std.proofs.Common.{◌≡◌, ℕ, zero, suc, ◌+◌, ◌<◌, ◌≤◌, List, [], ◌∷◌, length, Some, None, Option, sym, refl, ap, ◌∙◌, subst, inl, inr, ⊎_elim, arith}
+use Rattle.std.proofs.Common.{◌≡◌, ℕ, zero, suc, ◌+◌, ◌<◌, ◌≤◌, List, [], ◌∷◌, length, Some, None, Ok, Err, Option, sym, refl, ap, ◌∙◌, subst, inl, inr, ⊎_elim, arith}
 use Rattle.std.proofs.lemmas.Bool.{cases_lt, cases_order}
 use Rattle.shelf.specs.declared.row.Row.{Row}
-use Rattle.shelf.specs.Rows.{Rising, rank_of, label_at, row_at}
-use Rattle.shelf.proofs.Ranks.{cases_eq_lt, rank_below, rank_above, rank_le}
+use Rattle.shelf.specs.Rows.{Rising, Sought, rank_of, label_at, row_at}
+use Rattle.shelf.proofs.Ranks.{index_some, index_none, rank_below, rank_above, rank_le}
 use Rattle.gap.specs.Labels.{Labels, Sound}
 use Rattle.laws.specs.declared.place.Where.{Where}
 use Rattle.laws.specs.declared.place.Where.TheVariants.{FirstUnder, LastUnder, Before, After}
@@ -71,12 +71,8 @@ module _ (L : Labels) (rows : List Row) (up : Rising rows) (a p : ℕ) where
 
   -- ## The four places
 
-  -- a parent without children
-  pub childless : ((c : ℕ) → L.parent c ≡ Some p → ⊥) → (w : Where) → Neighbours L rows w a p (None, None)
-  childless none w = (λ c ((at, par), low). none c par, λ c ((at, par), high). none c par)
-
   pub first_under : (S : Sound L) (start : ℕ) → start ≡ rank_of rows p → (o : Option ℕ) → FirstChild L rows p start o
-      → Neighbours L rows FirstUnder a p (None, o)
+      → Neighbours L rows FirstUnder a p (record { lower = None; upper = o })
   first_under S start is o first = (
     λ c (k, h). h,
     upper_from FirstUnder start
@@ -86,7 +82,7 @@ module _ (L : Labels) (rows : List Row) (up : Rising rows) (a p : ℕ) where
   )
 
   pub last_under : (bound end : ℕ) → ((c : ℕ) → L.parent c ≡ Some p → c < bound) → end ≡ rank_of rows bound → (o : Option ℕ) → LastChild L rows p end o
-      → Neighbours L rows LastUnder a p (o, None)
+      → Neighbours L rows LastUnder a p (record { lower = o; upper = None })
   last_under bound end below is o last = (
     lower_from LastUnder end
         (λ j (inside, par) h.
@@ -95,7 +91,7 @@ module _ (L : Labels) (rows : List Row) (up : Rising rows) (a p : ℕ) where
     λ c (k, h). h,
   )
 
-  pub before : (at : ℕ) → at ≡ rank_of rows a → (o q : Option ℕ) → LastChild L rows p at o → FirstChild L rows p at q → Neighbours L rows Before a p (o, q)
+  pub before : (at : ℕ) → at ≡ rank_of rows a → (o q : Option ℕ) → LastChild L rows p at o → FirstChild L rows p at q → Neighbours L rows Before a p (record { lower = o; upper = q })
   before at is o q last first = (
     lower_from Before at
         (λ j (inside, par) low. ⊎_elim (λ less. less) (λ more. absurd (omega (arith, rank_above rows a up j (omega (arith, is)) inside))) (cases_lt j at))
@@ -105,7 +101,7 @@ module _ (L : Labels) (rows : List Row) (up : Rising rows) (a p : ℕ) where
         (λ j k more. rank_above rows a up j (omega (arith, is)) k.0) q first,
   )
 
-  pub after : (at : ℕ) → Past rows a at → (o q : Option ℕ) → LastChild L rows p at o → FirstChild L rows p at q → Neighbours L rows After a p (o, q)
+  pub after : (at : ℕ) → Past rows a at → (o q : Option ℕ) → LastChild L rows p at o → FirstChild L rows p at q → Neighbours L rows After a p (record { lower = o; upper = q })
   after at past o q last first = (
     lower_from After at
         (λ j (inside, par) low. ⊎_elim (λ less. less) (λ more. absurd (omega (arith, past.high j more inside))) (cases_lt j at))
@@ -115,22 +111,21 @@ module _ (L : Labels) (rows : List Row) (up : Rising rows) (a p : ℕ) where
         (λ j k more. past.high j more k.0) q first,
   )
 
--- how many rows have a label up to l, by its rank and the row there
-pub past_here : (rows : List Row) → Rising rows → (l k : ℕ) → k ≡ rank_of rows l → k < length rows → label_at rows k ≡ l → Past rows l (k + 1)
-past_here rows up l k is inside here =
+-- how many rows have a label up to l, by where it stands
+pub past_here : (rows : List Row) → Rising rows → (l i : ℕ) → Sought rows l (Ok i) → Past rows l (i + 1)
+past_here rows up l k (found, is) =
+    let (inside, here) = index_some rows l k found in
     record {
       few = omega arith;
       low = λ i h. ⊎_elim (λ less. omega (arith, rank_below rows l up i (omega (arith, is)))) (λ more. let same : i ≡ k = omega arith in omega (arith, here, ap (label_at rows) same)) (cases_lt i k);
       high = λ i h within. omega (arith, here, up k i (omega arith) within);
     }
 
-pub past_between : (rows : List Row) → Rising rows → (l k : ℕ) → k ≡ rank_of rows l → (k < length rows → label_at rows k ≡ l → ⊥) → Past rows l k
-past_between rows up l k is other =
+pub past_between : (rows : List Row) → Rising rows → (l i : ℕ) → Sought rows l (Err i) → Past rows l i
+past_between rows up l k (absent, is) =
     record {
       few = omega (arith, is, rank_le rows l);
       low = λ i h. omega (arith, rank_below rows l up i (omega (arith, is)));
       high = λ i h within.
-          ⊎_elim (λ same. ⊎_elim (λ e. absurd (other (omega (arith, within)) (sym (e ∙ ap (label_at rows) (sym same))))) (⊎_elim (λ g. g) (λ g. absurd (omega (arith, rank_above rows l up i (omega (arith, is)) within)))) (cases_order l (label_at rows i)))
-          (λ less. omega (arith, up k i less within, rank_above rows l up k (omega (arith, is)) (omega arith)))
-          (cases_eq_lt k i h);
+          ⊎_elim (λ e. absurd (index_none rows l absent i within (sym e))) (⊎_elim (λ g. g) (λ g. absurd (omega (arith, rank_above rows l up i (omega (arith, is)) within)))) (cases_order l (label_at rows i));
     }

@@ -1,17 +1,15 @@
 -- What the reading of a word says of the labels of its plan. Assumes nothing.
-use Rattle.std.proofs.Common.{◌≡◌, ℕ, ◌<◌, ◌≤◌, T, Some, None, Ok, Option, sym, refl, ap, ◌∙◌, subst, arith, lit≤}
+use Rattle.std.proofs.Common.{◌≡◌, ℕ, ◌≤◌, T, Some, None, Ok, Err, Option, Result, Decides, is_ok, sym, refl, ap, ◌∙◌, subst, arith, lit≤}
 use Rattle.label.specs.declared.reading.WordReading.{WordReading}
 use Rattle.label.specs.declared.fault.LabelFault.{LabelFault}
 use Rattle.label.specs.Label.{Label, parent, word, word_bits}
 use Rattle.label.specs.Stops.{Stops}
-use Rattle.label.specs.Theorems.{Of, Reads, EndsLed}
-use Rattle.label.proofs.Levels.{over_from_under}
-use Rattle.label.proofs.Standing.{Under}
+use Rattle.label.specs.Theorems.{Reads}
 use Rattle.label.proofs.Theorems.{read_back, stop_back}
 use Rattle.gap.specs.Labels.{Sound}
-use Rattle.neighbours.specs.Children.{ChildrenEnd}
+use Rattle.std.specs.Result.{result_ok}
 use Rattle.gap.specs.PlanLabels.{label_at, is_label, parent_of, word_of, labels_of}
-use Rattle.gap.proofs.PlanLabels.{parent_is, parent_parts, leads_parts, lawful_from, from_at, one_of, sound}
+use Rattle.gap.proofs.PlanLabels.{parent_is, leads_parts, lawful_from, from_at, sound}
 
 module _ (w : ℕ → ℕ → ℕ) (N : ℕ) where
   word_same : (o : Option Label) → word_of w N o ≡ elim o [ None ↦ None | Some p ↦ Some (word w N p) ]
@@ -44,38 +42,28 @@ module _ (w : ℕ → ℕ → ℕ) (N : ℕ) where
     pub unread_unlawful : ¬ (T ((labels_of w N).lawful x))
     unread_unlawful t = subst (λ (o : Option Label). T (is_label o)) unread t
 
-  -- a word that is no label's is nobody's parent, and leads nothing
-  module _ (x : ℕ) (e : LabelFault) (stopped : Stops w N x e) where
-    no_label : (c : Label) → Of w N c x → ⊥
-    no_label c of =
-        let u = read_back w N c x of in
-        let v = stop_back w N x e stopped in
-        let z : ◌≡◌ {A = ℕ} 0 1 = cc in omega arith
+  -- so the reading that is kept, or that none is, tells the parent and whether there is a label
+  abbrev parent_in : Option WordReading → Option ℕ
+  parent_in None = None
+  parent_in (Some reading) = reading.parent
 
-    pub stopped_childless : (y : ℕ) → (labels_of w N).parent y ≡ Some x → ⊥
-    stopped_childless y is = let (d, c, of, at, it) = parent_parts w N y x is in no_label c it
+  pub parent_read : (x : ℕ) (r : Result WordReading LabelFault) → Reads w N x r → (o : Option WordReading) → o ≡ result_ok r
+      → (labels_of w N).parent x ≡ parent_in o
+  parent_read x (Ok reading) reads o e = read_parent x reading reads ∙ sym (ap parent_in e)
+  parent_read x (Err fault) stops o e = unread_parent x fault stops ∙ sym (ap parent_in e)
 
-    pub stopped_leads : (y : ℕ) → T ((labels_of w N).leads x y) → ⊥
-    stopped_leads y t = let (c, d, p, q, u) = leads_parts w N x y t in no_label c p
+  pub label_read : (x : ℕ) (r : Result WordReading LabelFault) → Reads w N x r → Decides (is_ok r) (T ((labels_of w N).lawful x))
+  label_read x (Ok reading) reads = (λ _. read_lawful x reading reads, λ _. refl)
+  label_read x (Err fault) stops = (λ e. absurd (cc), λ t. absurd (unread_unlawful x fault stops t))
 
-  -- what a label leads is below its end, its children among these
-  pub led_below : (x : ℕ) (end : ℕ) → EndsLed w N x (Ok (Some end)) → (y : ℕ) → T ((labels_of w N).leads x y) → y < end
-  led_below x end (c, of, to) y t =
-      let (b, d, p, q, u) = leads_parts w N x y t in
-      let same : b ≡ c = one_of w N b c x p of in
-      omega (arith, ((to d q.0).0 (over_from_under c d (subst (λ (k : Label). Under k d) same u))).1, q.1)
-
-  pub led_nothing : (x : ℕ) → EndsLed w N x (Ok None) → (y : ℕ) → T ((labels_of w N).leads x y) → ⊥
-  led_nothing x (c, of, to) y t =
-      let (b, d, p, q, u) = leads_parts w N x y t in
-      to d q.0 (over_from_under c d (subst (λ (k : Label). Under k d) (one_of w N b c x p of) u))
+  -- a word that is no label's leads nothing
+  pub stopped_leads : (x : ℕ) (e : LabelFault) → Stops w N x e → (y : ℕ) → T ((labels_of w N).leads x y) → ⊥
+  stopped_leads x e stopped y t =
+      let (c, d, p, q, u) = leads_parts w N x y t in
+      let read = read_back w N c x p in
+      let stop = stop_back w N x e stopped in
+      let z : ◌≡◌ {A = ℕ} 0 1 = cc in omega arith
 
 -- a plan's labels are as the laws need them
 pub plan_sound : (w : ℕ → ℕ → ℕ) → ((l i : ℕ) → 1 ≤ w l i) → ((l i : ℕ) → w l i ≤ 8) → Sound (labels_of w word_bits)
 plan_sound w low high = sound w word_bits (λ l i. (low l i, high l i)) (lit≤ tt)
-
--- all children of a label are below the end of what it leads
-pub children_end : (w : ℕ → ℕ → ℕ) → ((l i : ℕ) → 1 ≤ w l i) → ((l i : ℕ) → w l i ≤ 8)
-    → (p : ℕ) (o : Option ℕ) → EndsLed w word_bits p (Ok o) → ChildrenEnd (labels_of w word_bits) p o
-children_end w low high p None ends = λ c is. led_nothing w word_bits p ends c ((plan_sound w low high).parent_leads p c is)
-children_end w low high p (Some end) ends = λ c is. led_below w word_bits p end ends c ((plan_sound w low high).parent_leads p c is)

@@ -20,10 +20,6 @@ InUse s = (s ≡ Filled) ⊎ (s ≡ Opened)
 abbrev pub BelowAt : Labels → List Row → (x i : ℕ) → Type 0
 BelowAt L rs x i = (i < length rs) × T (L.leads x (row_at rs i).label) × InUse (row_at rs i).state
 
--- none of the first n rows is
-abbrev pub NoneBelow : Labels → List Row → (x n : ℕ) → Type 0
-NoneBelow L rs x n = (i : ℕ) → i < n → BelowAt L rs x i → ⊥
-
 -- a row in use stands below x
 abbrev pub Occupied : Labels → List Row → (x : ℕ) → Type 0
 Occupied L rs x = (i : ℕ) × BelowAt L rs x i

@@ -1,12 +1,8 @@
 -- Children of a parent among the rows of a shelf, whatever their state. Assumes nothing.
-use Rattle.std.specs.Prelude.{◌≡◌, ℕ, ◌+◌, ◌<◌, ◌≤◌, Bool, T, List, length, Some, None, Option, ◌≢◌}
+use Rattle.std.specs.Prelude.{◌≡◌, ℕ, ◌+◌, ◌<◌, ◌≤◌, List, length, Some, None, Option, ◌≢◌}
 use Rattle.shelf.specs.declared.row.Row.{Row}
 use Rattle.shelf.specs.Rows.{label_at}
 use Rattle.gap.specs.Labels.{Labels}
-
--- an answer yes or no tells whether something holds
-abbrev pub Decides : Bool → Type 0 → Type 0
-Decides b p = (T b → p) × (p → T b)
 
 -- all children of p are below a word, or p has none
 abbrev pub ChildrenEnd : Labels → (p : ℕ) → Option ℕ → Type 0

@@ -1,4 +1,5 @@
 pub mod Below
 pub mod Children
 pub mod Next
+pub mod Planned
 pub mod Ranks

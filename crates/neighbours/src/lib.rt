@@ -4,7 +4,11 @@
 mod below;
 mod child;
 mod next;
+mod planned;
 mod rank;
+mod site;
+mod words;
 
-pub use below::stands_below;
-pub use next::neighbours;
+pub use planned::PlannedShelf;
+pub use site::Site;
+pub use words::is_label;

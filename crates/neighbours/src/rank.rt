@@ -1,5 +1,4 @@
 // Rows up to a label.
-ghost use Rattle.std.specs.Prelude.{◌≡◌, ℕ, ◌<◌, ◌≤◌};
 ghost use Rattle.neighbours.specs.Ranks.{Past};
 
 use label::Word;
@@ -9,9 +8,8 @@ use shelf::Reading;
 pub(crate) fn rank_past<S: Reading>(shelf: &S, label: Word) -> usize
     ensures { Past (S.Reading.rows shelf.now) label result }
 {
-    let rank = shelf.rank(label);
-    match shelf.row(rank) {
-        Some(row) => { if row.label == label { rank + 1 } else { rank } }
-        None => rank,
+    match shelf.seek(label) {
+        Ok(index) => index + 1,
+        Err(index) => index,
     }
 }

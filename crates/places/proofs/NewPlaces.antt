@@ -1,17 +1,18 @@
 -- The label of a new place under its parent, and what is so where none is left. Assumes nothing.
-use Rattle.std.proofs.Common.{◌≡◌, ℕ, T, List, Some, None, Option, refl, subst, inl, inr}
+use Rattle.std.proofs.Common.{◌≡◌, ℕ, T, List, Some, None, Option, ok_or, refl, subst, inl, inr}
 use Rattle.label.specs.declared.fault.LabelFault.{LabelFault}
 use Rattle.label.specs.Stops.{Stops}
 use Rattle.gap.specs.Labels.{Labels, Sound}
 use Rattle.gap.specs.PlanLabels.{labels_of}
 use Rattle.gap.proofs.Options.{some_injective, none_ne_some}
 use Rattle.gap.proofs.PlanLabels.{lawful_from, parent_parts}
-use Rattle.laws.specs.Numbers.{NO_PLACE}
 use Rattle.laws.specs.Standing.{Row}
 use Rattle.laws.specs.declared.place.Where.{Where}
 use Rattle.laws.specs.declared.place.Where.TheVariants.{FirstUnder, LastUnder, Before, After}
 use Rattle.laws.specs.Openings.{above_new, NextLower, NextUpper, LabelFor}
-use Rattle.laws.specs.Calls.{Passes, TurnsDown, place_checks}
+use Rattle.laws.specs.Calls.{Passes, place_checks}
+use Rattle.places.specs.declared.fault.SheetFault.TheVariants.{NoPlace}
+use Rattle.places.specs.Checked.{Checked}
 use Rattle.places.specs.Checks.{parent_checks}
 use Rattle.laws.proofs.Pins.{one_label}
 use Rattle.neighbours.proofs.WordReads.{unread_unlawful}
@@ -29,13 +30,12 @@ module _ (L : Labels) (S : Sound L) (rows : List Row) (a : ℕ) (w : Where) (ok 
     chosen = chosen;
   }
 
-  pub label_found : (x : ℕ) → L.Chooses p l u (Some x) → Passes (place_checks L rows a w) × LabelFor L rows w a (Some x)
-  label_found x chosen =
+  -- the label that is chosen, or why there is none
+  pub label_found : (o : Option ℕ) → L.Chooses p l u o → Checked (place_checks L rows a w) (λ (x : ℕ). LabelFor L rows w a (Some x)) (ok_or o NoPlace)
+  label_found (Some x) chosen =
       let label = label_for (Some x) chosen in
       ((ok.0, (ok.1.0, (ok.1.1.0, ((x, label), tt)))), label)
-
-  pub none_left : L.Chooses p l u None → TurnsDown (place_checks L rows a w) NO_PLACE
-  none_left chosen =
+  label_found None chosen =
       let none = label_for None chosen in
       inr (
         ok.0,

@@ -5,3 +5,4 @@ pub mod Inserted
 pub mod Ranks
 pub mod Scans
 pub mod Shifts
+pub mod Stretches

@@ -1,10 +1,14 @@
 -- What a rank and an index say of a list of rows whose labels rise. Assumes nothing.
-use Rattle.std.proofs.Common.{◌≡◌, ℕ, zero, suc, ◌<◌, ◌≤◌, true, false, eqb, ltb, ◌⊎◌, List, [], ◌∷◌, length, Some, None, Option, sym, refl, ap, ◌∙◌, subst, inl, inr, ⊎_elim, arith}
+use Rattle.std.proofs.Common.{◌≡◌, ℕ, zero, suc, ◌<◌, ◌≤◌, true, false, eqb, ltb, ◌⊎◌, List, [], ◌∷◌, length, get_or, Some, None, Ok, Err, Option, Result, Less, Equal, Greater, sym, refl, ap, ◌∙◌, subst, inl, inr, ⊎_elim, arith}
 use Rattle.std.proofs.lemmas.Bool.{cases_Bool, ltb-true, ltb-false, lt-ltb, le-ltb, eqb-true, eq-eqb, ne_eqb, cond_both, cases_lt, cases_order}
 use Rattle.std.proofs.lemmas.Option.{slice_get-get_or, slice_get_past}
 use Rattle.std.specs.List.{slice_get}
+use Rattle.std.specs.List.Sorted.{IsSearchInRange, IsBinarySearchResult, IsPartitionPoint}
+use Rattle.std.specs.Ordering.{nat_cmp, ordering_index}
+use borrow.Author.Tests.{tests}
+use Rattle.std.proofs.lemmas.List.{get_or_default}
 use Rattle.shelf.specs.declared.row.Row.{Row}
-use Rattle.shelf.specs.Rows.{blank, label_at, Rising, RowAt, rank_of, one_on, index_of, Absent}
+use Rattle.shelf.specs.Rows.{blank, label_at, Rising, RowAt, rank_of, one_on, index_of, Absent, Sought}
 
 pub cases_eq_lt : (a b : ℕ) → a ≤ b → (a ≡ b) ⊎ (a < b)
 cases_eq_lt a b h = ⊎_elim inl (⊎_elim inr (λ k. inl (omega arith))) (cases_order a b)
@@ -132,3 +136,33 @@ present_is rs l k up h same = (
 
 pub present_row : (rs : List Row) (l k : ℕ) (r : Row) → Rising rs → RowAt rs k (Some r) → r.label ≡ l → (index_of rs l ≡ Some k) × (k ≡ rank_of rs l)
 present_row rs l k r up (h, here) same = present_is rs l k up h (ap (λ x. x.label) here ∙ same)
+
+-- what the answers of `cmp` at two numbers say
+pub equal_same : (a b : ℕ) → nat_cmp a b ≡ Equal → a ≡ b
+equal_same a b e = grind (arith, tests)
+
+pub less_below : (a b : ℕ) → nat_cmp a b ≡ Less → a < b
+less_below a b e = grind (arith, tests)
+
+pub greater_above : (a b : ℕ) → nat_cmp a b ≡ Greater → b < a
+greater_above a b e = grind (arith, tests)
+
+-- what a binary search for the label l answers
+pub searched : (rs : List Row) (l : ℕ) (r : Result ℕ ℕ) → Rising rs → IsSearchInRange r (length rs) → IsBinarySearchResult (λ y. nat_cmp y.label l) rs r → Sought rs l r
+searched rs l (Ok i) up within at = present_is rs l i up within (equal_same _ _ (at blank))
+searched rs l (Err i) up within parted =
+    absent_is rs l i within (λ k h. less_below _ _ (parts.0 k blank (omega arith) h)) (λ k p q. greater_above _ _ (parts.1 k blank p q)) where
+      higher : (a b : ℕ) → a ≤ b → ordering_index (nat_cmp a l) ≤ ordering_index (nat_cmp b l)
+      higher a b le = grind (arith, tests)
+
+      labels_rise : (i j : ℕ) (d : Row) → i ≤ j → j < length rs → (get_or rs i d).label ≤ (get_or rs j d).label
+      labels_rise i j d le h =
+          ⊎_elim (λ e. ap_le e) (λ lt. let lower = up i j lt h in omega (arith, lower, at_label i d (omega arith), at_label j d h)) (cases_eq_lt i j le) where
+            at_label : (k : ℕ) (d : Row) → k < length rs → (get_or rs k d).label ≡ label_at rs k
+            at_label k d h = ap (λ r. r.label) (get_or_default rs k d blank h)
+
+            ap_le : i ≡ j → (get_or rs i d).label ≤ (get_or rs j d).label
+            ap_le e = rw e (omega arith)
+
+      parts : IsPartitionPoint (λ y. nat_cmp y.label l ≡ Less) (λ y. nat_cmp y.label l ≡ Greater) rs i
+      parts = parted (λ i j d le h. higher _ _ (labels_rise i j d le h))

@@ -2,4 +2,5 @@ pub mod Changes
 pub mod Fault
 pub mod Rows
 pub mod Scan
+pub mod Stretch
 pub mod Tables

@@ -7,10 +7,10 @@ use Rattle.shelf.specs.declared.table.OrderedTable.{OrderedTable}
 use Rattle.shelf.specs.Rows.{most_rows, LawfulRows}
 
 abbrev pub table_rows : OrderedTable → List Row
-table_rows t = take t.len t.slots.rows.now
+table_rows t = take t.len t.slots.now
 
 abbrev pub table_capacity : OrderedTable → ℕ
-table_capacity t = min (length t.slots.rows.now) most_rows
+table_capacity t = min (length t.slots.now) most_rows
 
 -- what every table keeps
 pub table_lawful : (t : OrderedTable) → LawfulRows (table_rows t)

@@ -13,8 +13,6 @@ pub trait Keeping: Reading {
     // How many rows there is room for.
     ghost capacity: { Self → ℕ };
 
-    ghost bounded: { (s : Self) → capacity s ≤ most_rows };
-
     fn capacity(&self) -> usize
         ensures { result ≡ capacity self.now };
 
@@ -29,4 +27,7 @@ pub trait Keeping: Reading {
         ensures rows { Set (Self.Reading.rows self.old) index state card result (Self.Reading.rows self.new) }
         ensures capacity { capacity self.new ≡ capacity self.old }
         ensures refused { IfRefused result (self.new ≡ self.old) };
+
+    // There is never room for more rows than a lawful list has.
+    ghost bounded: { (s : Self) → capacity s ≤ most_rows };
 }

@@ -6,13 +6,14 @@ mod keeping;
 mod lent;
 mod reading;
 mod row;
+mod rows;
 mod scan;
 mod table;
 
 pub use fault::ShelfFault;
 pub use keeping::Keeping;
-pub use lent::Lent;
 pub use reading::{MOST_ROWS, Reading};
 pub use row::{Row, State};
+pub use rows::Rows;
 pub use scan::next_filled;
 pub use table::OrderedTable;

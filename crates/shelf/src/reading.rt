@@ -5,26 +5,16 @@ ghost use Rattle.shelf.specs.Rows.{LawfulRows, RowAt, Sought, rank_of, index_of}
 
 use crate::row::Row;
 use label::Word;
+use std::cmp::Ordering;
 
 // How many rows a shelf has at most.
 pub const MOST_ROWS: usize = 2048;
-
-// The middle of the numbers from `low` on and below `high`.
-fn midpoint(low: usize, high: usize) -> usize
-    requires { low < high }
-    ensures { (low ≤ result) × (result < high) }
-{
-    low + (high - low) / 2
-}
 
 // A reading shelf means a list of rows: at most 2,048, and each with a greater label than the one before.
 // Its questions are on that list, and change nothing.
 pub trait Reading {
     // The list that the shelf means.
     ghost rows: { Self → List Row };
-
-    // Every shelf's list is lawful, whatever was done to the shelf.
-    ghost lawful: { (s : Self) → LawfulRows (rows s) };
 
     // How many rows there are.
     fn count(&self) -> usize
@@ -39,20 +29,18 @@ pub trait Reading {
     fn seek(&self, label: Word) -> Result<usize, usize>
         ensures { Sought (rows self.now) label result }
     {
+        // Kept: no rows lie side by side here for the library to search: a shelf is asked for one at a time. A shelf that has them in a slice searches that.
         let mut low = 0;
         let mut high = self.count();
         while low < high {
-            let middle = midpoint(low, high);
+            let middle = low.midpoint(high);
             let Some(row) = self.row(middle) else {
                 unreachable()
             };
-            if row.label == label {
-                return Ok(middle);
-            }
-            if row.label < label {
-                low = middle + 1;
-            } else {
-                high = middle;
+            match row.label.cmp(&label) {
+                Ordering::Equal => return Ok(middle),
+                Ordering::Less => low = middle + 1,
+                Ordering::Greater => high = middle,
             }
         }
         Err(low)
@@ -62,19 +50,16 @@ pub trait Reading {
     fn rank(&self, label: Word) -> usize
         ensures { result ≡ rank_of (rows self.now) label }
     {
-        match self.seek(label) {
-            Ok(index) => index,
-            Err(index) => index,
-        }
+        self.seek(label).unwrap_or_else(|index| index)
     }
 
     // The index of the row with the label, or none.
     fn find(&self, label: Word) -> Option<usize>
         ensures { result ≡ index_of (rows self.now) label }
     {
-        match self.seek(label) {
-            Ok(index) => Some(index),
-            Err(_) => None,
-        }
+        self.seek(label).ok()
     }
+
+    // Every shelf's list is lawful, whatever was done to the shelf.
+    ghost lawful: { (s : Self) → LawfulRows (rows s) };
 }

@@ -37,9 +37,9 @@ impl Row {
         ensures { result ≡ restated self state card }
     {
         Row {
-            label: self.label,
             state,
             card,
+            ..self
         }
     }
 }

@@ -4,6 +4,7 @@ ghost use Rattle.shelf.specs.Scan.{FilledAbove, NextFilled};
 
 use crate::reading::Reading;
 use crate::row::{Row, State};
+use crate::rows::Rows;
 use label::Word;
 
 // Whether a row is filled and has a label greater than a mark.
@@ -19,12 +20,9 @@ fn is_filled_above(row: &Row, mark: Word) -> bool
 pub fn next_filled<S: Reading>(shelf: &S, mark: Word) -> Option<(usize, Row)>
     ensures { NextFilled (S.Reading.rows shelf.now) mark result }
 {
-    let mut index = shelf.rank(mark);
-    while let Some(row) = shelf.row(index) {
-        if is_filled_above(&row, mark) {
-            return Some((index, row));
-        }
-        index += 1;
-    }
-    None
+    let start = shelf.rank(mark);
+    let count = shelf.count();
+    (start..count)
+        .zip(Rows::new(shelf, start..count))
+        .find(|(_, row)| is_filled_above(row, mark))
 }

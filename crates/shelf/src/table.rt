@@ -4,21 +4,15 @@ ghost use Rattle.shelf.specs.Rows.{most_rows, Rising};
 
 use crate::row::Row;
 
-// The memory handed in. It has no fact of its own to keep, so its rows can be lent to a function that moves them.
-#[derive(Drop)]
-pub struct Slots<'a> {
-    rows: &'a mut [Row],
-}
-
 // The first `len` slots are the list, in its order; what the others hold is of no account.
 // A row is found by halving, and put by moving the rows behind it up by one slot.
 #[derive(Drop)]
 pub struct OrderedTable<'a> {
-    slots: Slots<'a>,
+    slots: &'a mut [Row],
     len: usize,
     ghost few: { len ≤ most_rows },
-    ghost fits: { len ≤ length slots.rows.now },
-    ghost rising: { Rising (take len slots.rows.now) },
+    ghost fits: { len ≤ length slots.now },
+    ghost rising: { Rising (take len slots.now) },
 }
 
 pub mod as_shelf;

@@ -14,12 +14,10 @@ impl<const LOW: u16, const HIGH: u16> Bounded<LOW, HIGH> {
         ensures made { result ≡ ok_or (bounded LOW HIGH number) NoCard }
         ensures exact { MatchResult result (λ b. b.value ≡ number) (λ _. Within LOW HIGH number → ⊥) }
     {
-        if number < LOW as u64 || number > HIGH as u64 {
-            return Err(CardFault::NoCard);
+        match u16::try_from(number) {
+            Ok(value) if (LOW..=HIGH).contains(&value) => Ok(Bounded { value }),
+            _ => Err(CardFault::NoCard),
         }
-        Ok(Bounded {
-            value: number as u16,
-        })
     }
 
     // The number itself.
@@ -35,7 +33,6 @@ impl<const LOW: u16, const HIGH: u16> fmt::Display for Bounded<LOW, HIGH> {
     ghost output = { λ b. Some (decimal b.value) };
 
     fn fmt<W: fmt::Write>(&self, f: &mut fmt::Formatter<W>) -> fmt::Result {
-        let value = self.get();
-        write!(f, "{value}")
+        write!(f, "{}", self.value)
     }
 }

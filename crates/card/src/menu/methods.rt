@@ -9,7 +9,7 @@ use super::{Action, Length, MenuCard};
 use crate::fault::CardFault;
 
 // The most that a caption's start and length may be together.
-const LAST_END: u64 = 65_535;
+const LAST_END: u16 = 65_535;
 
 impl MenuCard {
     // `made` says which card comes of which numbers, and `lawful` says it by ranges: a card comes exactly when the
@@ -22,14 +22,14 @@ impl MenuCard {
     {
         let length = Length::new(length)?;
         let action = Action::new(action)?;
-        if start > LAST_END - u64::from(length.get()) {
-            return Err(CardFault::NoCard);
+        match u16::try_from(start) {
+            Ok(start) if start <= LAST_END - length.get() => Ok(MenuCard {
+                start,
+                length,
+                action,
+            }),
+            _ => Err(CardFault::NoCard),
         }
-        Ok(MenuCard {
-            start: start as u16,
-            length,
-            action,
-        })
     }
 
     // Where the caption starts.

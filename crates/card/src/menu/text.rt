@@ -10,9 +10,6 @@ impl fmt::Display for MenuCard {
     ghost output = { λ c. Some (written c) };
 
     fn fmt<W: fmt::Write>(&self, f: &mut fmt::Formatter<W>) -> fmt::Result {
-        let start = self.start;
-        let length = self.length;
-        let action = self.action;
-        write!(f, "menu {start} {length} {action}")
+        write!(f, "menu {} {} {}", self.start, self.length, self.action)
     }
 }

@@ -1,12 +1,11 @@
 // The chain as a shelf.
-ghost use Rattle.std.specs.Prelude.{◌≡◌, min, [], length};
+ghost use Rattle.std.specs.Prelude.{◌≡◌, min, [], length, nat_le};
 ghost use Rattle.shelf.specs.Rows.{most_rows};
 ghost use Rattle.shelf.specs.Changes.{Put, Set, IfRefused};
 ghost use Rattle.chain.specs.Chains.{chain_rows, chain_capacity, chain_lawful, chain_bounded, Stays};
 
 use super::Chain;
 use crate::link::Link;
-use crate::seat::Seat;
 use label::Word;
 use shelf::{Keeping, MOST_ROWS, Reading, Row, ShelfFault, State};
 
@@ -21,6 +20,13 @@ impl<'a> Chain<'a> {
             head: 0,
             len: 0,
         }
+    }
+
+    // Whether there is no room for another row.
+    fn is_full(&self) -> bool
+        ensures { result ≡ nat_le (chain_capacity self.now) (length (chain_rows self.now)) }
+    {
+        self.count() >= self.capacity()
     }
 }
 
@@ -43,10 +49,7 @@ impl<'a> Reading for Chain<'a> {
 
     // By one walk, since a row is reached only through those before it.
     fn seek(&self, label: Word) -> Result<usize, usize> {
-        match self.seat(label) {
-            Seat::Held(index) => Ok(index),
-            Seat::Vacant(index, _) => Err(index),
-        }
+        self.seat(label).map_err(|vacancy| vacancy.index)
     }
 }
 
@@ -66,13 +69,13 @@ impl<'a> Keeping for Chain<'a> {
         ensures refused { IfRefused result (self.new ≡ self.old) }
         ensures stays { Stays self.old self.new }
     {
-        let Seat::Vacant(_, before) = self.seat(row.label) else {
+        let Err(vacancy) = self.seat(row.label) else {
             return Err(ShelfFault::Held);
         };
-        if self.count() >= self.capacity() {
+        if self.is_full() {
             return Err(ShelfFault::Full);
         }
-        self.hook(before, row);
+        self.hook(vacancy.before, row);
         Ok(())
     }
 

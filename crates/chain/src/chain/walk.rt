@@ -5,8 +5,10 @@ ghost use Rattle.chain.specs.Links.{link_at, slot_at};
 ghost use Rattle.chain.specs.Chains.{chain_rows, Seated};
 
 use super::Chain;
-use crate::seat::Seat;
+use crate::link::Link;
+use crate::vacancy::Vacancy;
 use label::Word;
+use std::cmp::Ordering;
 
 impl<'a> Chain<'a> {
     // The slot of the row at an index.
@@ -17,31 +19,32 @@ impl<'a> Chain<'a> {
         ensures row { row_at (chain_rows self.now) index ≡ (link_at self.now.links.now result).row }
     {
         let mut at = self.head as usize;
-        for step in 0..index {
+        for _ in 0..index {
             at = self.links[at].next as usize;
         }
         at
     }
 
-    // Whether a row has the label, and where it stands or would stand, by one walk that ends at the first label not below it.
-    pub(crate) fn seat(&self, label: Word) -> Seat
+    // The index of the row with the label, or where its row would stand, by one walk that ends at the first label not below it.
+    pub(crate) fn seat(&self, label: Word) -> Result<usize, Vacancy>
         ensures { Seated self.now label result }
     {
-        let mut rank = 0;
         let mut before = None;
         let mut at = self.head as usize;
-        while rank < self.len {
-            let link = self.links[at];
-            if link.row.label == label {
-                return Seat::Held(rank);
+        for index in 0..self.len {
+            let Link { row, next } = self.links[at];
+            match row.label.cmp(&label) {
+                Ordering::Less => {
+                    before = Some(at);
+                    at = next as usize;
+                }
+                Ordering::Equal => return Ok(index),
+                Ordering::Greater => return Err(Vacancy { index, before }),
             }
-            if link.row.label > label {
-                return Seat::Vacant(rank, before);
-            }
-            before = Some(at);
-            at = link.next as usize;
-            rank += 1;
         }
-        Seat::Vacant(rank, before)
+        Err(Vacancy {
+            index: self.len,
+            before,
+        })
     }
 }

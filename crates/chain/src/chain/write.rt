@@ -1,5 +1,5 @@
 // Writing into a chain.
-ghost use Rattle.std.specs.Prelude.{◌≡◌, ◌<◌, length, Some, None, slice_set};
+ghost use Rattle.std.specs.Prelude.{◌≡◌, ◌<◌, length, slice_set};
 ghost use Rattle.shelf.specs.Rows.{Absent, row_at, restated};
 ghost use Rattle.shelf.specs.Changes.{with_row};
 ghost use Rattle.chain.specs.Chains.{chain_rows, chain_capacity, ComesBehind, Stays};
@@ -9,7 +9,8 @@ use crate::link::Link;
 use shelf::{Row, State};
 
 impl<'a> Chain<'a> {
-    // Sets a row in by its label, behind the one in a slot or before all. It goes into the first free slot, and no other row is touched.
+    // Sets a row in by its label, behind the one in a slot or before all. It goes into the first free slot, and no other row is touched:
+    // what told the slot of the row behind it tells the new row's, and the new row tells that one.
     pub(crate) fn hook(&mut self, before: Option<usize>, row: Row)
         requires absent { Absent (chain_rows self.old) row.label }
         requires room { length (chain_rows self.old) < chain_capacity self.old }
@@ -18,47 +19,26 @@ impl<'a> Chain<'a> {
         ensures capacity { chain_capacity self.new ≡ chain_capacity self.old }
         ensures stays { Stays self.old self.new }
     {
+        let free = self.len;
         match before {
-            None => self.hook_first(row),
-            Some(slot) => self.hook_behind(slot, row),
+            None => {
+                self.links[free] = Link {
+                    row,
+                    next: self.head,
+                };
+                self.head = free as u16;
+            }
+            Some(slot) => {
+                self.links[free] = Link {
+                    row,
+                    next: self.links[slot].next,
+                };
+                self.links[slot].next = free as u16;
+            }
         }
-    }
-
-    fn hook_first(&mut self, row: Row)
-        requires absent { Absent (chain_rows self.old) row.label }
-        requires room { self.old.len < chain_capacity self.old }
-        requires behind { ComesBehind self.old row.label None }
-        ensures rows { chain_rows self.new ≡ with_row (chain_rows self.old) row }
-        ensures capacity { chain_capacity self.new ≡ chain_capacity self.old }
-        ensures stays { Stays self.old self.new }
-    {
-        let free = self.len;
-        self.links[free] = Link {
-            row,
-            next: self.head,
-        };
-        self.head = free as u16;
         self.len = free + 1;
     }
 
-    // The row before then tells the new one's slot, and the new one tells what that row told.
-    fn hook_behind(&mut self, slot: usize, row: Row)
-        requires absent { Absent (chain_rows self.old) row.label }
-        requires room { self.old.len < chain_capacity self.old }
-        requires behind { ComesBehind self.old row.label (Some slot) }
-        requires inside { slot < self.old.len }
-        ensures rows { chain_rows self.new ≡ with_row (chain_rows self.old) row }
-        ensures capacity { chain_capacity self.new ≡ chain_capacity self.old }
-        ensures stays { Stays self.old self.new }
-    {
-        let free = self.len;
-        self.links[free] = Link {
-            row,
-            next: self.links[slot].next,
-        };
-        self.links[slot].next = free as u16;
-        self.len = free + 1;
-    }
     // Gives the row at an index another state and card word, in its slot.
     pub(crate) fn restate(&mut self, index: usize, state: State, card: u64)
         requires { index < length (chain_rows self.old) }

@@ -4,6 +4,7 @@ ghost use Rattle.factory.specs.Factory.{factory_rows, factory_lawful};
 
 use super::FactoryShelf;
 use crate::programme::PROGRAMME;
+use label::Word;
 use shelf::{Reading, Row};
 
 impl FactoryShelf {
@@ -25,10 +26,10 @@ impl Reading for FactoryShelf {
     }
 
     fn row(&self, index: usize) -> Option<Row> {
-        if index < self.count() {
-            Some(self.rows[index])
-        } else {
-            None
-        }
+        self.rows.get(index).copied()
+    }
+
+    fn seek(&self, label: Word) -> Result<usize, usize> {
+        self.rows.binary_search_by_key(&label, |row| row.label)
     }
 }

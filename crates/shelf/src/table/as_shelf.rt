@@ -1,13 +1,14 @@
 // The ordered table as a shelf.
-ghost use Rattle.std.specs.Prelude.{◌≡◌, min, [], length};
+ghost use Rattle.std.specs.Prelude.{◌≡◌, min, [], length, nat_le};
 ghost use Rattle.shelf.specs.Rows.{most_rows};
 ghost use Rattle.shelf.specs.Tables.{table_rows, table_capacity, table_lawful, table_bounded};
 
-use super::{OrderedTable, Slots};
+use super::OrderedTable;
 use crate::fault::ShelfFault;
 use crate::keeping::Keeping;
 use crate::reading::{MOST_ROWS, Reading};
 use crate::row::{Row, State};
+use label::Word;
 
 impl<'a> OrderedTable<'a> {
     // An empty table over the slots, whatever they hold.
@@ -16,7 +17,7 @@ impl<'a> OrderedTable<'a> {
         ensures capacity { table_capacity result ≡ min (length rows.old) most_rows }
     {
         OrderedTable {
-            slots: Slots { rows },
+            slots: rows,
             len: 0,
         }
     }
@@ -25,7 +26,14 @@ impl<'a> OrderedTable<'a> {
     fn rows(&self) -> &[Row]
         ensures { result.now ≡ table_rows self.now }
     {
-        &self.slots.rows[0..self.len]
+        &self.slots[..self.len]
+    }
+
+    // Whether there is no room for another row.
+    fn is_full(&self) -> bool
+        ensures { result ≡ nat_le (table_capacity self.now) (length (table_rows self.now)) }
+    {
+        self.count() >= self.capacity()
     }
 }
 
@@ -39,12 +47,11 @@ impl<'a> Reading for OrderedTable<'a> {
     }
 
     fn row(&self, index: usize) -> Option<Row> {
-        let rows = self.rows();
-        if index < rows.len() {
-            Some(rows[index])
-        } else {
-            None
-        }
+        self.rows().get(index).copied()
+    }
+
+    fn seek(&self, label: Word) -> Result<usize, usize> {
+        self.rows().binary_search_by_key(&label, |row| row.label)
     }
 }
 
@@ -54,14 +61,14 @@ impl<'a> Keeping for OrderedTable<'a> {
     ghost bounded = { table_bounded };
 
     fn capacity(&self) -> usize {
-        self.slots.rows.len().min(MOST_ROWS)
+        self.slots.len().min(MOST_ROWS)
     }
 
     fn put(&mut self, row: Row) -> Result<(), ShelfFault> {
         let Err(at) = self.seek(row.label) else {
             return Err(ShelfFault::Held);
         };
-        if self.count() >= self.capacity() {
+        if self.is_full() {
             return Err(ShelfFault::Full);
         }
         self.insert(at, row);

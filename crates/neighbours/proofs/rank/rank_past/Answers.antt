@@ -1,17 +1,16 @@
-use Rattle.std.proofs.Common.{sym, ap, ◌∙◌, arith}
-use Rattle.shelf.specs.declared.row.Row.{Row}
-use Rattle.neighbours.proofs.NextSiblings.{past_between}
+use Rattle.std.proofs.Common.{arith}
+use mir.Facts.{Fits-of_lt}
+use Rattle.neighbours.proofs.NextSiblings.{past_here, past_between}
+use Rattle.shelf.proofs.Ranks.{index_some}
 use Rattle.neighbours.proofs.rank.rank_past.Goals as goal
 
-pub returns-else-row-label : goal.returns-else-row-label
-returns-else-row-label g c =
+pub overflow_add-result : goal.overflow_add-result
+overflow_add-result g c =
     let shelf = c.args.shelf.now in
-    let row = c.in-Some.ensures in
-    past_between (g.S.Reading.rows shelf) (g.S.Reading.lawful shelf).rising c.args.label _ c.rank-rank.ensures
-    (λ inside here. c.if-row-label.false (sym (ap (λ (r : Row). r.label) row.1) ∙ here))
+    Fits-of_lt (omega (arith, (index_some (g.S.Reading.rows shelf) c.args.label c.in-Ok.index c.in-Ok.ensures.0).0, (g.met.S.Reading.lawful shelf).few))
 
-pub returns-in-None : goal.returns-in-None
-returns-in-None g c =
-    let shelf = c.args.shelf.now in
-    past_between (g.S.Reading.rows shelf) (g.S.Reading.lawful shelf).rising c.args.label _ c.rank-rank.ensures
-    (λ inside here. omega (arith, c.in-None.ensures))
+pub returns-in-Ok : goal.returns-in-Ok
+returns-in-Ok g c = past_here (g.S.Reading.rows c.args.shelf.now) (g.met.S.Reading.lawful c.args.shelf.now).rising c.args.label c.in-Ok.index c.in-Ok.ensures
+
+pub returns-in-Err : goal.returns-in-Err
+returns-in-Err g c = past_between (g.S.Reading.rows c.args.shelf.now) (g.met.S.Reading.lawful c.args.shelf.now).rising c.args.label c.in-Err.index c.in-Err.ensures

@@ -1,11 +1,13 @@
-use Rattle.std.proofs.Common.{ℕ, sym, subst}
-use Rattle.card.specs.FiringWords.{reads_lawful}
-use Rattle.card.specs.Firing.{LawfulWord, code}
-use Rattle.card.specs.Reading.{Reads}
+use Rattle.std.proofs.Common.{rules}
+use Rattle.card.specs.declared.firing.step_kind.StepKind.TheVariants.{Section, Ramp, Hold, Cool}
 use Rattle.card.proofs.firing.FiringCardCard.from_word.Goals as goal
 
--- the answer is `decode`'s, of which `reads_lawful` says when it is a card
-pub returns : goal.returns
-returns c =
-    let w : ℕ = c.args.word in
-    record { made = c.card_in.ensures; lawful = subst (Reads code (LawfulWord w) w) (sym c.card_in.ensures) (reads_lawful w) }
+-- a number that no kind has makes no card
+pub returns-in_err-kind : goal.returns-in_err-kind
+returns-in_err-kind c =
+    let none = c.in_err-kind.ensures in
+    let not_section = none Section in
+    let not_ramp = none Ramp in
+    let not_hold = none Hold in
+    let not_cool = none Cool in
+    search rules

@@ -1,18 +1,22 @@
-use Rattle.std.proofs.Common.{arith}
+use Rattle.std.proofs.Common.{sym}
+use Rattle.shelf.proofs.Ranks.{equal_same, less_below, greater_above}
 use Rattle.chain.proofs.Walks.{passed_more, vacant_past, vacant_here, held_here}
 use Rattle.chain.proofs.chain.Chain.seat.Goals as goal
 
-pub returns-then-link-label : goal.returns-then-link-label
-returns-then-link-label c =
-    held_here _ _ _ _ _ _ _ c.loop-rank.invariant c.args.self.now.rising c.loop-rank-test.true c.if-link-label.true
+pub returns-in-Equal : goal.returns-in-Equal
+returns-in-Equal c =
+    held_here _ _ _ _ _ _ _ c.loop-index.invariant c.args.self.now.rising c.loop-index-test.true (equal_same _ _ (sym c.in-Equal.ensures))
 
-pub returns-then-link-label-2 : goal.returns-then-link-label-2
-returns-then-link-label-2 c =
-    vacant_here _ _ _ _ _ _ _ c.loop-rank.invariant c.args.self.now.rising c.loop-rank-test.true c.if-link-label-2.true
+pub returns-in-Greater : goal.returns-in-Greater
+returns-in-Greater c =
+    vacant_here _ _ _ _ _ _ _ c.loop-index.invariant c.args.self.now.rising c.loop-index-test.true (greater_above _ _ (sym c.in-Greater.ensures))
 
-pub loop-rank-preserved : goal.loop-rank-preserved
-loop-rank-preserved c =
-    passed_more _ _ _ _ _ _ _ c.loop-rank.invariant c.loop-rank-test.true (omega (arith, c.if-link-label.false, c.if-link-label-2.false))
+pub loop-index-preserved : goal.loop-index-preserved
+loop-index-preserved c =
+    passed_more _ _ _ _ _ _ _ c.loop-index.invariant c.loop-index-test.true (less_below _ _ (sym c.in-Less.ensures))
 
 pub returns : goal.returns
-returns c = vacant_past _ _ _ _ _ _ _ c.loop-rank.invariant c.loop-rank-test.false
+returns c =
+    let chain = c.args.self.now in
+    vacant_past chain.links.now chain.head chain.len c.args.label c.loop-index.index _ _ c.loop-index.invariant
+    c.loop-index-test.false

@@ -8,15 +8,15 @@ use Rattle.shelf.proofs.table.OrderedTable.restate.Goals as goal
 pub invariant_of-self : goal.invariant_of-self
 invariant_of-self c =
     let t = c.args.self.now in
-    let len = length-take-le t.len t.slots.rows.now t.fits in
-    let up = rising_front t.slots.rows.now t.len c.args.index c.restated.result (omega (arith, c.requires))
+    let len = length-take-le t.len t.slots.now t.fits in
+    let up = rising_front t.slots.now t.len c.args.index c.restated.result (omega (arith, c.requires))
     (ap (λ r. r.label) c.restated.ensures) t.rising in
     record { few = t.few; fits = simp length-set t.fits; rising = up }
 
 pub returns : goal.returns
 returns c =
     let t = c.args.self.now in
-    let xs = t.slots.rows.now in
+    let xs = t.slots.now in
     let i = c.args.index in
     let len = length-take-le t.len xs t.fits in
     let h : i < t.len = omega (arith, c.requires) in
