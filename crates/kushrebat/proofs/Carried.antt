@@ -8,11 +8,6 @@ use Rattle.label.specs.declared.fault.LabelFault.{LabelFault}
 use Rattle.label.proofs.Theorems.{one_outcome}
 use Rattle.label.proofs.Words.{below}
 use Rattle.gap.specs.Between.{Betweens}
-use Rattle.kushrebat.specs.Carrying.{place_of}
-use Rattle.kushrebat.specs.declared.command.PlanKind.{PlanKind}
-
-pub by_kind : (kind known : PlanKind) (widths : List ℕ) (r : Result AnyPlan PlanFault) → kind ≡ known → Makes by_either (place_of known) widths r → Makes by_either (place_of kind) widths r
-by_kind kind known widths r e h = subst (λ k. Makes by_either (place_of k) widths r) (sym e) h
 
 -- a plan is made, and is the choice of its kind
 pub made : {P : Type 0} (width : P → ℕ → ℕ → ℕ) (chosen : P → AnyPlan) (place : ℕ → ℕ → ℕ) (widths : List ℕ) (r : Result P PlanFault) (o : Result AnyPlan PlanFault) → ((p : P) → Makes width place widths (Ok p) → Makes by_either place widths (Ok (chosen p))) → Makes width place widths r → MatchResult r (λ p. IsOkAnd o (λ a. a ≡ chosen p)) (λ fault. o ≡ Err fault) → Makes by_either place widths o
@@ -21,9 +16,6 @@ made width chosen place widths (Ok p) (Err fault) keeps h is = absurd is
 made width chosen place widths (Err fault) o keeps h is = subst (Makes by_either place widths) (sym is) h
 
 module _ (w : ℕ → ℕ → ℕ) (N parent : ℕ) (lower upper : Option ℕ) where
-  pub found : (o : Option ℕ) (x : ℕ) → o ≡ Some x → Betweens w N parent lower upper (Ok o) → Betweens w N parent lower upper (Ok (Some x))
-  found o x e h = subst (λ q. Betweens w N parent lower upper (Ok q)) e h
-
   -- the label between is a label: reading its word does not stop
   pub never_stops : (x : ℕ) (fault : LabelFault) → Betweens w N parent lower upper (Ok (Some x)) → Stops w N x fault → ⊥
   never_stops x fault (p, of, (c, chosen, is)) stops =

@@ -1,7 +1,8 @@
 -- Cutting bytes at the first place of a byte. Assumes nothing.
 use Rattle.std.proofs.Common.{◌≡◌, ℕ, zero, suc, ◌<◌, ◌≤◌, true, false, ◌||◌, eqb, List, [], ◌∷◌, ◌++◌, length, get_or, take, drop, sym, refl, ap, ◌∙◌, add-zero, arith, length-drop, get_or-drop, eq-eqb, ◌≢◌, Some, None, Option, Bor, unwrap_or}
 use Rattle.std.specs.Option.{MatchOption}
-use Rattle.std.proofs.lemmas.Bool.{cond-true, cond-false, ne_eqb, eqb-true}
+use Rattle.std.proofs.lemmas.Bool.{cond-true, cond-false, ne_eqb}
+use Rattle.std.proofs.lemmas.List.{nil_from_length}
 use Rattle.kushrebat.specs.Lines.{until, behind, has, trimmed, line_feed, carriage_return, first_line, space, onto, words_of}
 use Rattle.kushrebat.specs.Places.{First}
 
@@ -96,15 +97,11 @@ words_first (c ∷ d ∷ cs) (suc (suc n)) h l =
     ∙ cond-false (eqb d space) _ _ (ne_eqb d space (h.before 1 (omega arith)))
     ∙ ap (onto c) (words_first (d ∷ cs) (suc n) (first_rest space c (d ∷ cs) (suc n) h) (omega arith))
 
-none_left : (bs : List ℕ) → length bs ≡ 0 → bs ≡ []
-none_left [] h = refl
-none_left (c ∷ cs) h = absurd (omega arith)
-
 -- ## What the iterators give
 
 -- spaces, and nothing more
 pub no_word : (bs : List ℕ) (n : ℕ) → Run space bs n → length bs ≤ n → words_of bs ≡ []
-no_word bs n run l = sym (words_drop bs n run) ∙ ap words_of (none_left (drop n bs) (omega (arith, length-drop n bs)))
+no_word bs n run l = sym (words_drop bs n run) ∙ ap words_of (nil_from_length (drop n bs) (omega (arith, length-drop n bs)))
 
 -- spaces, and then a word up to the next space
 pub a_word : (bs begins word rest : List ℕ) (n m : ℕ) → Run space bs n → n < length bs → begins ≡ drop n bs → First space begins m → word ≡ take m begins → rest ≡ drop m begins → words_of bs ≡ word ∷ words_of rest
@@ -117,7 +114,7 @@ a_word bs begins word rest n (suc m) run more is first e f =
 
 pub last_line : (bs line tail : List ℕ) (n : ℕ) → First line_feed bs n → line ≡ take n bs → tail ≡ drop n bs → length tail ≡ 0 → (line ≡ first_line bs) × (tail ≡ behind line_feed bs)
 last_line bs line tail n first e f z =
-    let nothing = none_left tail z in
+    let nothing = nil_from_length tail z in
     let (all, none, away) = drop_none line_feed bs n first (sym f ∙ nothing) in
     (e ∙ all ∙ sym (cond-false (has line_feed bs) _ _ away), nothing ∙ sym none)
 
@@ -125,6 +122,3 @@ pub a_line : (bs line tail rest : List ℕ) (n d : ℕ) → First line_feed bs n
 a_line bs line tail rest n d first e f g =
     let (cut, there) = drop_first line_feed bs n d rest first (sym f ∙ g) in
     (ap trimmed (e ∙ take_first line_feed bs n first) ∙ sym (cond-true (has line_feed bs) _ _ there), sym cut)
-
-pub nothing_left : (bs : List ℕ) → eqb (length bs) 0 ≡ true → bs ≡ []
-nothing_left bs e = none_left bs (eqb-true (length bs) 0 e)

@@ -43,6 +43,11 @@ SpellsWidths [] (w ∷ ws) = ⊥
 SpellsWidths (d ∷ ds) [] = ⊥
 SpellsWidths (d ∷ ds) (w ∷ ws) = SpellsWidth d w × SpellsWidths ds ws
 
+-- reading a word as a kind of plan
+abbrev pub ReadsKind : List ℕ → Result PlanKind LineFault → Type 0
+ReadsKind d (Ok kind) = SpellsKind d kind
+ReadsKind d (Err fault) = ((kind : PlanKind) → SpellsKind d kind → ⊥) × (fault ≡ UnknownCommand)
+
 -- a word is taken away, and it spells x
 abbrev pub Takes : {X : Type 0} → (List ℕ → X → Type 0) → List (List ℕ) → X → List (List ℕ) → Type 0
 Takes SpellsIt ws x rest = (ds : List ℕ) × (ws ≡ ds ∷ rest) × SpellsIt ds x
@@ -54,6 +59,11 @@ text_of name.Plan = codes "plan"
 text_of name.Ask = codes "ask"
 text_of name.Relate = codes "relate"
 text_of name.Between = codes "between"
+
+-- reading a word as the name of a command
+abbrev pub ReadsName : List ℕ → Result Name LineFault → Type 0
+ReadsName d (Ok n) = d ≡ text_of n
+ReadsName d (Err fault) = ((n : Name) → d ≢ text_of n) × (fault ≡ UnknownCommand)
 
 abbrev pub name_of : Command → Name
 name_of (Plan kind widths) = name.Plan

@@ -1,7 +1,6 @@
 // The commands of a script.
-ghost use Rattle.std.specs.Prelude.{◌≡◌, List, [], ◌∷◌, MatchResult, ◌≢◌};
-ghost use Rattle.std.specs.Option as options;
-ghost use Rattle.kushrebat.specs.Grammar.{left, text_of, Takes, SpellsWord, SpellsBound, SpellsKind, SpellsWidth, SpellsWidths, SpellsBehind, Part, a_word, a_bound, Misread, MisreadWidths, MisreadPlan, MisreadBehind, Parses};
+ghost use Rattle.std.specs.Prelude.{◌≡◌, List, [], ◌∷◌, MatchResult};
+ghost use Rattle.kushrebat.specs.Grammar.{left, Takes, SpellsWord, SpellsBound, SpellsKind, SpellsWidth, SpellsWidths, SpellsBehind, Part, a_word, a_bound, Misread, MisreadWidths, MisreadPlan, MisreadBehind, ReadsName, ReadsKind, Parses};
 ghost use Rattle.kushrebat.specs.declared.script.fault.LineFault.TheVariants.{MissingWord, NotANumber};
 ghost use Rattle.kushrebat.specs.Numerals.{Number};
 
@@ -18,6 +17,20 @@ use std::alloc::Global;
 pub enum PlanKind {
     Position,
     Level,
+}
+
+impl<'a> TryFrom<&'a [u8]> for PlanKind {
+    type Error = LineFault;
+
+    ghost try_from_gives = { λ word r. ReadsKind word.now r };
+
+    fn try_from(word: &'a [u8]) -> Result<PlanKind, LineFault> {
+        match word {
+            b"position" => Ok(PlanKind::Position),
+            b"level" => Ok(PlanKind::Level),
+            _ => Err(LineFault::UnknownCommand),
+        }
+    }
 }
 
 // A line that can be read.
@@ -40,6 +53,22 @@ pub enum Name {
     Ask,
     Relate,
     Between,
+}
+
+impl<'a> TryFrom<&'a [u8]> for Name {
+    type Error = LineFault;
+
+    ghost try_from_gives = { λ word r. ReadsName word.now r };
+
+    fn try_from(word: &'a [u8]) -> Result<Name, LineFault> {
+        match word {
+            b"plan" => Ok(Name::Plan),
+            b"ask" => Ok(Name::Ask),
+            b"relate" => Ok(Name::Relate),
+            b"between" => Ok(Name::Between),
+            _ => Err(LineFault::UnknownCommand),
+        }
+    }
 }
 
 // What the words of a line have to be, from left to right.
@@ -80,11 +109,7 @@ impl<'a> Words<'a> {
     fn plan_kind(&mut self) -> Result<PlanKind, LineFault>
         ensures { MatchResult result (λ kind. Takes SpellsKind (left self.old) kind (left self.new)) (MisreadPlan (left self.old)) }
     {
-        match self.need()? {
-            b"position" => Ok(PlanKind::Position),
-            b"level" => Ok(PlanKind::Level),
-            _ => Err(LineFault::UnknownCommand),
-        }
+        PlanKind::try_from(self.need()?)
     }
 
     // All further words, as widths.
@@ -138,19 +163,6 @@ fn between(mut words: Words) -> Result<Command, LineFault>
     Ok(Command::Between(parent, Bounds { lower, upper }))
 }
 
-// The command that a word names.
-fn named(word: &[u8]) -> Option<Name>
-    ensures { options.MatchOption result ((n : Name) → word.now ≢ text_of n) (λ n. word.now ≡ text_of n) }
-{
-    match word {
-        b"plan" => Some(Name::Plan),
-        b"ask" => Some(Name::Ask),
-        b"relate" => Some(Name::Relate),
-        b"between" => Some(Name::Between),
-        _ => None,
-    }
-}
-
 // The command of this name with the words behind it.
 fn parse_behind(heap: Global, name: Name, words: Words) -> Result<Command, LineFault>
     ensures { MatchResult result (SpellsBehind name (left words.entry)) (MisreadBehind name (left words.entry)) }
@@ -172,7 +184,7 @@ impl Command {
         let Some(word) = words.next() else {
             return Ok(None);
         };
-        let name = named(word).ok_or(LineFault::UnknownCommand)?;
+        let name = Name::try_from(word)?;
         Ok(Some(parse_behind(heap, name, words)?))
     }
 }

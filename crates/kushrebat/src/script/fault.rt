@@ -16,22 +16,6 @@ pub enum LineFault {
     OutOfMemory,
 }
 
-impl LineFault {
-    // What is told of it.
-    fn reason(&self) -> &'static str
-        ensures { result.now ≡ reason_of self.now }
-    {
-        match self {
-            LineFault::UnknownCommand => "unknown command",
-            LineFault::MissingWord => "missing word",
-            LineFault::ExtraWord => "extra word",
-            LineFault::NotANumber => "not a number",
-            LineFault::NotALabelWord => "not a label word",
-            LineFault::OutOfMemory => "out of memory",
-        }
-    }
-}
-
 // Kept: thiserror's `#[from]` promises nothing of what it makes, and a line that is turned down where memory is out is told so by this clause.
 impl From<AllocError> for LineFault {
     ghost from_gives = { λ _ r. r ≡ OutOfMemory };
@@ -45,6 +29,13 @@ impl fmt::Display for LineFault {
     ghost output = { λ fault. Some (reason_of fault) };
 
     fn fmt<W: fmt::Write>(&self, f: &mut fmt::Formatter<W>) -> fmt::Result {
-        f.write_str(self.reason())
+        f.write_str(match self {
+            LineFault::UnknownCommand => "unknown command",
+            LineFault::MissingWord => "missing word",
+            LineFault::ExtraWord => "extra word",
+            LineFault::NotANumber => "not a number",
+            LineFault::NotALabelWord => "not a label word",
+            LineFault::OutOfMemory => "out of memory",
+        })
     }
 }

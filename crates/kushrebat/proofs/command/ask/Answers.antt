@@ -1,7 +1,5 @@
-use Rattle.std.proofs.Common.{[]}
-use Rattle.std.proofs.lemmas.Result.{err_from_is_err_and}
+use Rattle.std.proofs.Common.{rules, []}
 use Rattle.kushrebat.proofs.command.ask.Goals as goal
 
 pub returns-in_err-asked : goal.returns-in_err-asked
-returns-in_err-asked c =
-    let p = err_from_is_err_and c.from_residual.result c.from_residual.ensures.1 in rw (p.1, p.2) (c.in_err-asked.ensures [])
+returns-in_err-asked c = let fault = c.in_err-asked.ensures [] in search rules
