@@ -18,9 +18,9 @@ impl<'a> Chain<'a> {
         ensures inside { result < self.now.len }
         ensures row { row_at (chain_rows self.now) index ≡ (link_at self.now.links.now result).row }
     {
-        let mut at = self.head as usize;
+        let mut at = usize::from(self.head);
         for _ in 0..index {
-            at = self.links[at].next as usize;
+            at = usize::from(self.links[at].next);
         }
         at
     }
@@ -30,13 +30,13 @@ impl<'a> Chain<'a> {
         ensures { Seated self.now label result }
     {
         let mut before = None;
-        let mut at = self.head as usize;
+        let mut at = usize::from(self.head);
         for index in 0..self.len {
             let Link { row, next } = self.links[at];
             match row.label.cmp(&label) {
                 Ordering::Less => {
                     before = Some(at);
-                    at = next as usize;
+                    at = usize::from(next);
                 }
                 Ordering::Equal => return Ok(index),
                 Ordering::Greater => return Err(Vacancy { index, before }),

@@ -13,7 +13,7 @@ returns-in-Greater c =
 
 pub loop-index-preserved : goal.loop-index-preserved
 loop-index-preserved c =
-    passed_more _ _ _ _ _ _ _ c.loop-index.invariant c.loop-index-test.true (less_below _ _ (sym c.in-Less.ensures))
+    rw c.from-at-in-Less.ensures (passed_more _ _ _ _ _ _ _ c.loop-index.invariant c.loop-index-test.true (less_below _ _ (sym c.in-Less.ensures)))
 
 pub returns : goal.returns
 returns c =

@@ -4,7 +4,9 @@ use Rattle.chain.proofs.Walks.{slot_more, row_walked}
 use Rattle.chain.proofs.chain.Chain.slot.Goals as goal
 
 pub loop-preserved : goal.loop-preserved
-loop-preserved c = let chain = c.args.self.now in slot_more chain.links.now chain.head c.loop.counter c.loop.at c.loop.invariant
+loop-preserved c =
+    let chain = c.args.self.now in
+    c.from-at-in-loop.ensures ∙ slot_more chain.links.now chain.head c.loop.counter c.loop.at c.loop.invariant
 
 pub returns : goal.returns
 returns c =
