@@ -1,5 +1,5 @@
 -- Cutting bytes at the first place of a byte. Assumes nothing.
-use Rattle.std.proofs.Common.{◌≡◌, ℕ, zero, suc, ◌<◌, ◌≤◌, true, false, ◌||◌, eqb, List, [], ◌∷◌, ◌++◌, length, get_or, take, drop, sym, refl, ap, ◌∙◌, add-zero, arith, length-drop, get_or-drop, eq-eqb, ◌≢◌, Some, None, Option, Bor, unwrap_or}
+use Rattle.std.proofs.Common.{◌≡◌, ℕ, zero, suc, ◌+◌, ◌<◌, ◌≤◌, true, false, ◌||◌, eqb, List, [], ◌∷◌, ◌++◌, length, get_or, take, drop, sym, refl, ap, ◌∙◌, add-zero, arith, length-drop, get_or-drop, eq-eqb, ◌≢◌, Some, None, Option, Bor, unwrap_or, min, subst, append_assoc, append-nil, length-append}
 use Rattle.std.specs.Option.{MatchOption}
 use Rattle.std.proofs.lemmas.Bool.{cond-true, cond-false, ne_eqb}
 use Rattle.std.proofs.lemmas.List.{nil_from_length}
@@ -32,27 +32,6 @@ take_first b [] (suc n) h = refl
 take_first b (c ∷ cs) zero h = sym (cond-true (eqb c b) _ _ (eq-eqb c b (h.found (omega arith))))
 take_first b (c ∷ cs) (suc n) h =
     ap (λ r. c ∷ r) (take_first b cs n (first_rest b c cs n h)) ∙ sym (cond-false (eqb c b) _ _ (ne_eqb c b (h.before 0 (omega arith))))
-
-pub drop_first : (b : ℕ) (bs : List ℕ) (n d : ℕ) (rest : List ℕ) → First b bs n → drop n bs ≡ d ∷ rest → (behind b bs ≡ rest) × (has b bs ≡ true)
-drop_first b [] zero d rest h e = absurd (omega (arith, ap length e))
-drop_first b [] (suc n) d rest h e = absurd (omega (arith, ap length e))
-drop_first b (c ∷ cs) zero d rest h e =
-    let is = eq-eqb c b (h.found (omega arith)) in
-    let same : cs ≡ rest = cc in
-    (cond-true (eqb c b) _ _ is ∙ same, ap (λ t. t || has b cs) is)
-drop_first b (c ∷ cs) (suc n) d rest h e =
-    let not = ne_eqb c b (h.before 0 (omega arith)) in
-    let (cut, there) = drop_first b cs n d rest (first_rest b c cs n h) e in
-    (cond-false (eqb c b) _ _ not ∙ cut, ap (λ t. t || has b cs) not ∙ there)
-
-pub drop_none : (b : ℕ) (bs : List ℕ) (n : ℕ) → First b bs n → drop n bs ≡ [] → (take n bs ≡ bs) × (behind b bs ≡ []) × (has b bs ≡ false)
-drop_none b [] zero h e = (refl, refl, refl)
-drop_none b [] (suc n) h e = (refl, refl, refl)
-drop_none b (c ∷ cs) zero h e = absurd (omega (arith, ap length e))
-drop_none b (c ∷ cs) (suc n) h e =
-    let not = ne_eqb c b (h.before 0 (omega arith)) in
-    let (all, none, away) = drop_none b cs n (first_rest b c cs n h) e in
-    (ap (λ r. c ∷ r) all, cond-false (eqb c b) _ _ not ∙ none, ap (λ t. t || has b cs) not ∙ away)
 
 -- ## The end of a line
 
@@ -112,13 +91,42 @@ a_word bs begins word rest n (suc m) run more is first e f =
     sym (words_drop bs n run) ∙ ap words_of (sym is) ∙ words_first begins (suc m) first (omega arith)
     ∙ ap (λ w. w ∷ words_of (drop (suc m) begins)) (sym e) ∙ ap (λ r. word ∷ words_of r) (sym f)
 
-pub last_line : (bs line tail : List ℕ) (n : ℕ) → First line_feed bs n → line ≡ take n bs → tail ≡ drop n bs → length tail ≡ 0 → (line ≡ first_line bs) × (tail ≡ behind line_feed bs)
-last_line bs line tail n first e f z =
-    let nothing = nil_from_length tail z in
-    let (all, none, away) = drop_none line_feed bs n first (sym f ∙ nothing) in
-    (e ∙ all ∙ sym (cond-false (has line_feed bs) _ _ away), nothing ∙ sym none)
+-- a line feed after bytes that are none
+ends_line : (x rest : List ℕ) (n : ℕ) → ((k : ℕ) → k < n → get_or (x ++ (line_feed ∷ rest)) k 0 ≢ line_feed) → length x ≤ n → (until line_feed (x ++ (line_feed ∷ rest)) ≡ x) × (behind line_feed (x ++ (line_feed ∷ rest)) ≡ rest) × (has line_feed (x ++ (line_feed ∷ rest)) ≡ true)
+ends_line [] rest n before l = (refl, refl, refl)
+ends_line (c ∷ x) rest zero before l = absurd (omega arith)
+ends_line (c ∷ x) rest (suc n) before l =
+    let not = ne_eqb c line_feed (before 0 (omega arith)) in
+    let (cut, behind_it, there) = ends_line x rest n (λ k m. before (suc k) (omega arith)) (omega arith) in (
+      cond-false (eqb c line_feed) _ _ not ∙ ap (λ r. c ∷ r) cut,
+      cond-false (eqb c line_feed) _ _ not ∙ behind_it,
+      ap (λ t. t || has line_feed (x ++ (line_feed ∷ rest))) not ∙ there,
+    )
 
-pub a_line : (bs line tail rest : List ℕ) (n d : ℕ) → First line_feed bs n → line ≡ take n bs → tail ≡ drop n bs → tail ≡ d ∷ rest → (trimmed line ≡ first_line bs) × (rest ≡ behind line_feed bs)
-a_line bs line tail rest n d first e f g =
-    let (cut, there) = drop_first line_feed bs n d rest first (sym f ∙ g) in
-    (ap trimmed (e ∙ take_first line_feed bs n first) ∙ sym (cond-true (has line_feed bs) _ _ there), sym cut)
+-- bytes up to the first line feed that do not end in one are all
+no_feed : (line rest : List ℕ) (n : ℕ) → ((k : ℕ) → k < n → get_or (line ++ rest) k 0 ≢ line_feed) → (n < length (line ++ rest) → get_or (line ++ rest) n 0 ≡ line_feed) → length line ≡ min (n + 1) (length (line ++ rest)) → ((front : List ℕ) → line ≢ front ++ (line_feed ∷ [])) → (rest ≡ []) × (behind line_feed (line ++ rest) ≡ []) × (has line_feed (line ++ rest) ≡ false)
+no_feed [] rest n before found l bare =
+    let nothing = nil_from_length rest (omega arith) in (nothing, ap (behind line_feed) nothing, ap (has line_feed) nothing)
+no_feed (c ∷ line) rest zero before found l bare =
+    let alone = nil_from_length line (omega arith) in
+    absurd (bare [] (ap (λ r. c ∷ r) alone ∙ ap (λ d. d ∷ []) (found (omega arith))))
+no_feed (c ∷ line) rest (suc n) before found l bare =
+    let not = ne_eqb c line_feed (before 0 (omega arith)) in
+    let (nothing, none, away) = no_feed line rest n (λ k m. before (suc k) (omega arith)) (λ m. found (omega arith)) (omega arith) (λ front e. bare (c ∷ front) (ap (λ r. c ∷ r) e)) in
+    (nothing, cond-false (eqb c line_feed) _ _ not ∙ none, ap (λ t. t || has line_feed (line ++ rest)) not ∙ away)
+
+-- a line is what stands up to the first line feed, without it, and trimmed where there is one
+pub a_line : (bs rest : List ℕ) (line got : Bor (List ℕ)) (n : ℕ) (o : Option (Bor (List ℕ))) (Says : Bor (List ℕ) → Type 0) → bs ≡ line.now ++ rest → ((k : ℕ) → k < n → get_or bs k 0 ≢ line_feed) → (n < length bs → get_or bs n 0 ≡ line_feed) → length line.now ≡ min (n + 1) (length bs) → MatchOption o ((front : List ℕ) → line.now ≢ front ++ (line_feed ∷ [])) (λ x. line.now ≡ x.now ++ (line_feed ∷ [])) → MatchOption o (got ≡ line) Says → ((x : Bor (List ℕ)) → Says x → got.now ≡ trimmed x.now) → (got.now ≡ first_line bs) × (rest ≡ behind line_feed bs)
+a_line bs rest line got n None Says e before found l bare is says =
+    let (nothing, none, away) = no_feed line.now rest n (subst (λ b. (k : ℕ) → k < n → get_or b k 0 ≢ line_feed) e before) (subst (λ b. n < length b → get_or b n 0 ≡ line_feed) e found) (l ∙ ap (λ b. min (n + 1) (length b)) e) bare in
+    let whole : bs ≡ line.now = e ∙ ap (λ r. line.now ++ r) nothing ∙ append-nil line.now in (
+      ap (λ g. g.now) is ∙ sym whole ∙ sym (cond-false (has line_feed bs) _ _ (ap (has line_feed) e ∙ away)),
+      nothing ∙ sym (ap (behind line_feed) e ∙ none),
+    )
+a_line bs rest line got n (Some x) Says e before found l ends is says =
+    let f : bs ≡ x.now ++ (line_feed ∷ rest) = e ∙ ap (λ k. k ++ rest) ends ∙ append_assoc x.now (line_feed ∷ []) rest in
+    let few : length x.now ≤ n = omega (arith, ap length ends, length-append x.now (line_feed ∷ []), l) in
+    let (cut, behind_it, there) = ends_line x.now rest n (subst (λ b. (k : ℕ) → k < n → get_or b k 0 ≢ line_feed) f before) few in (
+      says x is ∙ ap trimmed (sym (ap (until line_feed) f ∙ cut)) ∙ sym (cond-true (has line_feed bs) _ _ (ap (has line_feed) f ∙ there)),
+      sym (ap (behind line_feed) f ∙ behind_it),
+    )

@@ -3,8 +3,6 @@ ghost use Rattle.std.specs.Prelude.{◌≡◌, length};
 ghost use Rattle.std.specs.Iterator.{at_most};
 ghost use Rattle.kushrebat.specs.Lines.{trimmed, NextLine};
 
-use crate::script::find::find;
-
 // What is left of a script.
 #[derive(Drop)]
 pub(crate) struct Lines<'a> {
@@ -35,19 +33,8 @@ impl<'a> Iterator for Lines<'a> {
     ghost remaining = { λ s. at_most (length s.rest.now) };
 
     fn next(&mut self) -> Option<&'a [u8]> {
-        if self.rest.is_empty() {
-            return None;
-        }
-        let (line, behind) = self.rest.split_at(find(self.rest, b'\n'));
-        match behind.split_first() {
-            Some((_, further)) => {
-                self.rest = further;
-                Some(without_return(line))
-            }
-            None => {
-                self.rest = behind;
-                Some(line)
-            }
-        }
+        let line = self.rest.split_inclusive(|x| *x == b'\n').next()?;
+        self.rest = &self.rest[line.len()..];
+        Some(line.strip_suffix(b"\n").map_or(line, without_return))
     }
 }
