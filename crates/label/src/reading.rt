@@ -47,6 +47,7 @@ fn read_pieces<P: WidthPlan>(plan: &P, word: Word) -> Result<WordReading, LabelF
 }
 
 // Reads a word under a plan: what its label has, or the fault at which reading stops.
+// Kept: a plan and a word are no type of their own, since one plan is asked of many words, and `read(&PlannedWord { plan, word })` is longer than `read(plan, word)`.
 pub fn read<P: WidthPlan>(plan: &P, word: Word) -> Result<WordReading, LabelFault>
     ensures reads { Reads (P.width plan.now) word_bits word result }
     ensures sized { IfOk result (λ reading. (1 ≤ reading.bits) × (reading.bits ≤ word_bits)) }
