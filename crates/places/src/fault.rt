@@ -77,6 +77,7 @@ impl SheetFault {
 }
 
 // A word that makes no card, met in a row.
+// Kept: thiserror's `#[from]` promises nothing of what it makes, and the contracts of what `?` turns down name the refusal, by these clauses.
 impl From<CardFault> for SheetFault {
     ghost from_gives = { λ fault r. r ≡ faults.Card fault };
 
