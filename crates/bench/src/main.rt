@@ -19,7 +19,7 @@ const UNASKED: usize = 1000;
 
 // The nanoseconds of one call, where `count` took so many.
 fn each(total: u128, count: usize) -> u128 {
-    if count == 0 { 0 } else { total / count as u128 }
+    total.checked_div(count as u128).unwrap_or(0)
 }
 
 // Makes inputs from the same pseudo-random numbers, and prints the sum of what the call gives for each, and the time of one where a number of calls is asked for.

@@ -17,8 +17,8 @@ pub fn read_sum(plan: &PositionPlan, word: Word) -> u64 {
 }
 
 pub fn between_sum(plan: &PositionPlan, opening: &Opening) -> u64 {
-    match between(plan, opening.parent, opening.bounds) {
-        Ok(Some(word)) => word,
-        Ok(None) | Err(_) => 1,
-    }
+    between(plan, opening.parent, opening.bounds)
+        .ok()
+        .flatten()
+        .unwrap_or(1)
 }

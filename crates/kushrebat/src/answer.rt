@@ -41,7 +41,7 @@ impl Refusal {
     }
 }
 
-// Kept: thiserror's `#[from]` promises nothing of what it makes, and the contracts of what `?` turns down name the refusal, by these clauses.
+// Kept: by hand, which is the form for a conversion whose clause says what it makes: of thiserror's `#[from]` nothing is promised, and the contracts of what `?` turns down rest on these clauses.
 impl From<PlanFault> for Refusal {
     ghost from_gives = { λ fault r. r ≡ refusals.Plan fault };
 
@@ -50,6 +50,7 @@ impl From<PlanFault> for Refusal {
     }
 }
 
+// Kept: as for a plan's fault.
 impl From<LabelFault> for Refusal {
     ghost from_gives = { λ fault r. r ≡ refusals.Label fault };
 

@@ -77,7 +77,7 @@ impl SheetFault {
 }
 
 // A word that makes no card, met in a row.
-// Kept: thiserror's `#[from]` promises nothing of what it makes, and the contracts of what `?` turns down name the refusal, by these clauses.
+// Kept: by hand, which is the form for a conversion whose clause says what it makes: of thiserror's `#[from]` nothing is promised, and the contracts of what `?` turns down rest on these clauses.
 impl From<CardFault> for SheetFault {
     ghost from_gives = { λ fault r. r ≡ faults.Card fault };
 
@@ -87,6 +87,7 @@ impl From<CardFault> for SheetFault {
 }
 
 // A row that the shelf turned down.
+// Kept: as for a card's fault.
 impl From<ShelfFault> for SheetFault {
     ghost from_gives = { λ fault r. r ≡ faults.Shelf fault };
 

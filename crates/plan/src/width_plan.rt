@@ -7,7 +7,7 @@ pub trait WidthPlan {
     // The width at a level and a position.
     ghost width: { Self → ℕ → ℕ → ℕ };
 
-    // Kept: a level and a position are no type of their own here, since each plan uses one of the two; code that keeps both has `label`'s `Spot`.
+    // Kept: a level and a position are no type of their own here, since `plan.width(Spot { level, position })` at each call is longer than `plan.width(level, position)`; code that keeps both has `label`'s `Spot`.
     fn width(&self, level: usize, position: usize) -> u32
         ensures { result ≡ width self.now level position };
 

@@ -16,7 +16,7 @@ pub enum LineFault {
     OutOfMemory,
 }
 
-// Kept: thiserror's `#[from]` promises nothing of what it makes, and a line that is turned down where memory is out is told so by this clause.
+// Kept: by hand, which is the form for a conversion whose clause says what it makes: of thiserror's `#[from]` nothing is promised, and a line that is turned down where memory is out is told so by this clause.
 impl From<AllocError> for LineFault {
     ghost from_gives = { λ _ r. r ≡ OutOfMemory };
 
