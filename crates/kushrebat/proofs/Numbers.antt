@@ -2,7 +2,6 @@
 use Rattle.std.proofs.Common.{◌≡◌, ℕ, zero, suc, ◌+◌, ◌*◌, ◌^◌, ◌<◌, ◌≤◌, List, [], ◌∷◌, length, get_or, take, Some, None, Option, sym, ap, ◌∙◌, subst, arith}
 use Rattle.std.proofs.Math.Nat.{mul-le-mul_left}
 use Rattle.std.proofs.lemmas.Int.Digits.{digits_value_more, digits_more, digits_value-lt}
-use Rattle.std.proofs.lemmas.List.{take_all}
 use Rattle.std.specs.Str.Parse.{AllDigits, digits_value, digits_value_after}
 use Rattle.std.specs.Option.{SomeIff}
 use Rattle.std.specs.Char.{digit_value}
@@ -32,10 +31,6 @@ step radix ds i v d c l is digits e small f =
     let g : d ≡ digit_value (get_or ds i 0) = f ∙ ap digit_value e in
     let h : v * radix ≡ digits_value radix (take i ds) * radix = ap (λ n. n * radix) is in
     (omega arith, digits_more radix ds i l digits (subst (λ b. digit_value b < radix) e small))
-
--- all digits
-pub whole : (radix : ℕ) (ds : List ℕ) (i v : ℕ) → length ds ≤ i → v ≡ digits_value radix (take i ds) → AllDigits radix (take i ds) → (v ≡ digits_value radix ds) × AllDigits radix ds
-whole radix ds i v l is digits = let e = take_all i ds l in (is ∙ ap (digits_value radix) e, subst (AllDigits radix) e digits)
 
 -- a byte that is no digit
 pub no_digit : (radix : ℕ) (ds : List ℕ) (i c : ℕ) → i < length ds → c ≡ get_or ds i 0 → (digit_value c < radix → ⊥) → AllDigits radix ds → ⊥

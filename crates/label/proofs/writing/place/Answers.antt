@@ -1,11 +1,7 @@
-use Rattle.std.proofs.Common.{◌≡◌, ℕ, ◌-◌, ◌*◌, ◌^◌, ◌<◌, ◌≤◌, sym, ap, ◌∙◌, arith, pow_pos, pow_mono}
-use Rattle.std.proofs.lemmas.Bool.{both_ways}
+use Rattle.std.proofs.Common.{◌≡◌, ℕ, ◌-◌, ◌*◌, ◌^◌, ◌<◌, ◌≤◌, ap, ◌∙◌, arith, pow_pos, pow_mono}
 use Rattle.label.specs.Label.{word_bits}
 use Rattle.label.proofs.Pieces.{in_front}
 use Rattle.label.proofs.writing.place.Goals as goal
-
-pub returns-then-not-takes : goal.returns-then-not-takes
-returns-then-not-takes c = λ room small stands. both_ways _ (sym c.if-not-takes.ensures) stands
 
 -- what is behind the subvalue
 behind : (c : goal.After-power-2) → c.power-2.result ≡ 2 ^ (c.args.spot.left - c.args.width)
@@ -20,11 +16,3 @@ overflow_mul-result c =
     let fits : s * 2 ^ (n - k) < 2 ^ n = omega (arith, in_front k n s 0 (omega (arith, c.in_ok-behind.ensures)) small (pow_pos (n - k))) in
     let whole : 2 ^ n ≤ 2 ^ word_bits = pow_mono c.args.spot.within in
     omega (arith, ap (λ (m : ℕ). s * m) (behind c))
-
-pub returns : goal.returns
-returns c = (
-  omega (arith, c.in_ok-behind.ensures),
-  omega (arith, c.from-value.ensures, c.power.ensures, c.if-value-power.false),
-  sym c.if-not-takes.ensures,
-  rw (behind c, c.from-value.ensures),
-)

@@ -8,14 +8,8 @@ loop-preserved c =
     let chain = c.args.self.now in
     c.from-at-in-loop.ensures ∙ slot_more chain.links.now chain.head c.loop.counter c.loop.at c.loop.invariant
 
-pub returns : goal.returns
-returns c =
+pub returns-clause-row : goal.returns-clause-row
+returns-clause-row c =
     let chain = c.args.self.now in
-    let ls = chain.links.now in
     let all : c.loop.counter ≡ c.args.index = omega arith in
-    let here = c.loop.invariant ∙ ap (slot_at ls chain.head) all in
-    record {
-      at = here;
-      inside = omega (arith, here, chain.inside c.args.index c.requires);
-      row = row_walked ls chain.head chain.len c.args.index c.loop.at here c.requires;
-    }
+    row_walked chain.links.now chain.head chain.len c.args.index c.loop.at (c.loop.invariant ∙ ap (slot_at chain.links.now chain.head) all) c.requires

@@ -1,6 +1,6 @@
 use Rattle.std.proofs.Common.{◌≡◌, ◌*◌, ◌<◌, length, get_or, ap, ◌∙◌, arith}
 use Rattle.std.specs.Char.{digit_value}
-use Rattle.kushrebat.proofs.Numbers.{step, whole, no_digit, too_large}
+use Rattle.kushrebat.proofs.Numbers.{step, no_digit, too_large}
 use Rattle.kushrebat.proofs.script.digits.value.Goals as goal
 
 pub returns-in_err-digit : goal.returns-in_err-digit
@@ -33,8 +33,3 @@ loop-c-preserved g c =
     let s = step g.row.BASE _ _ _ c.from-in-loop-c-2.result c.from.result l c.loop-c.invariant.0 c.loop-c.invariant.1.0 c.from.ensures digit.0 (c.from-in-loop-c-2.ensures ∙ digit.1) in
     let sum = c.in_ok-value.ensures in
     (omega (arith, base, s.0, sum.1, c.in_ok-checked_mul.ensures.1), (s.1, omega (arith, base, s.0, sum.0, sum.1, c.in_ok-checked_mul.ensures.1)))
-
-pub returns : goal.returns
-returns g c =
-    let s = whole g.row.BASE c.args.digits.now c.loop-c.c-index c.loop-c.value c.loop-c-test.false c.loop-c.invariant.0 c.loop-c.invariant.1.0 in
-    ((s.1, omega (arith, s.0, c.loop-c.invariant.0, c.loop-c.invariant.1.1)), s.0)
