@@ -1,8 +1,6 @@
 -- What a rank and an index say of a list of rows whose labels rise. Assumes nothing.
 use Rattle.std.proofs.Common.{◌≡◌, ℕ, zero, suc, ◌<◌, ◌≤◌, true, false, eqb, ltb, ◌⊎◌, List, [], ◌∷◌, length, get_or, Some, None, Ok, Err, Option, Result, Less, Equal, Greater, sym, refl, ap, ◌∙◌, subst, inl, inr, ⊎_elim, arith}
 use Rattle.std.proofs.lemmas.Bool.{cases_Bool, ltb-true, ltb-false, lt-ltb, le-ltb, eqb-true, eq-eqb, ne_eqb, cond_both, cases_lt, cases_order}
-use Rattle.std.proofs.lemmas.Option.{slice_get-get_or, slice_get_past}
-use Rattle.std.specs.List.{slice_get}
 use Rattle.std.specs.List.Sorted.{IsSearchInRange, IsBinarySearchResult, IsPartitionPoint}
 use Rattle.std.specs.Ordering.{nat_cmp, ordering_index}
 use borrow.Author.Tests.{tests}
@@ -12,11 +10,6 @@ use Rattle.shelf.specs.Rows.{blank, label_at, Rising, RowAt, rank_of, one_on, in
 
 pub cases_eq_lt : (a b : ℕ) → a ≤ b → (a ≡ b) ⊎ (a < b)
 cases_eq_lt a b h = ⊎_elim inl (⊎_elim inr (λ k. inl (omega arith))) (cases_order a b)
-
--- the row at an index as std's `nth` tells it
-pub row_nth : (rs : List Row) (i : ℕ) (o : Option Row) → RowAt rs i o → o ≡ slice_get rs i
-row_nth rs i (Some r) (h, e) = sym (slice_get-get_or rs i blank h ∙ ap Some e)
-row_nth rs i None h = sym (slice_get_past rs i h)
 
 pub rising_tail : (r : Row) (rs : List Row) → Rising (r ∷ rs) → Rising rs
 rising_tail r rs up i j h k = up (suc i) (suc j) (omega arith) (omega arith)

@@ -1,5 +1,5 @@
 // The chain as a shelf.
-ghost use Rattle.std.specs.Prelude.{◌≡◌, min, [], length, nat_le};
+ghost use Rattle.std.specs.Prelude.{◌≡◌, min, [], length};
 ghost use Rattle.shelf.specs.Rows.{most_rows};
 ghost use Rattle.shelf.specs.Changes.{Put, Set, IfRefused};
 ghost use Rattle.chain.specs.Chains.{chain_rows, chain_capacity, chain_lawful, chain_bounded, Stays};
@@ -20,13 +20,6 @@ impl<'a> Chain<'a> {
             head: 0,
             len: 0,
         }
-    }
-
-    // Whether there is no room for another row.
-    fn is_full(&self) -> bool
-        ensures { result ≡ nat_le (chain_capacity self.now) (length (chain_rows self.now)) }
-    {
-        self.count() >= self.capacity()
     }
 }
 
@@ -73,13 +66,14 @@ impl<'a> Keeping for Chain<'a> {
         let Err(vacancy) = self.seat(row.label) else {
             return Err(ShelfFault::Held);
         };
-        if self.is_full() {
+        if (*self).is_full() {
             return Err(ShelfFault::Full);
         }
         self.hook(vacancy.before, row);
         Ok(())
     }
 
+    // Kept: the table's `set` has this body over its own `restate`. One `set` in the trait would need a public `restate` in it, which asks its caller for an index in range, and no public function may ask for anything.
     fn set(&mut self, index: usize, state: State, card: u64) -> Result<(), ShelfFault>
         ensures rows { Set (chain_rows self.old) index state card result (chain_rows self.new) }
         ensures capacity { chain_capacity self.new ≡ chain_capacity self.old }
