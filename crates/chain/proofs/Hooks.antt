@@ -83,23 +83,9 @@ unvisited ls h n i x away (suc j) p =
     ∙ ap (λ l. l.next) (link_set_other ls i (slot_at ls h j) x (away j (omega arith)))
     ∙ sym (slot_suc ls h j)
 
--- .. so one in the first free slot leaves all as it was
-module _ (ls : List Link) (h n : ℕ) (x : Link) (inside : Inside ls h n) where
-  away : (j : ℕ) → j < n → slot_at ls h j ≢ n
-  away j p = let lt = inside j p in omega arith
-
-  pub walked_free : walked (set ls n x) h n ≡ walked ls h n
-  walked_free =
-      let old = length_walked ls h n in
-      let new = length_walked (set ls n x) h n in
-      same_lists _ _ (omega arith) (λ j d p.
-      get_or_walked (set ls n x) h n j d (omega arith)
-      ∙ ap (λ s. (link_at (set ls n x) s).row) (unvisited ls h n n x away j (omega arith))
-      ∙ ap (λ l. l.row) (link_set_other ls n (slot_at ls h j) x (away j (omega arith)))
-      ∙ sym (get_or_walked ls h n j d (omega arith)))
-
-  pub inside_free : Inside (set ls n x) h n
-  inside_free j p = let e = unvisited ls h n n x away j (omega arith) in let lt = inside j p in omega arith
+-- .. as one in the first free slot
+away : (ls : List Link) (h n : ℕ) → Inside ls h n → (j : ℕ) → j < n → slot_at ls h j ≢ n
+away ls h n inside j p = let lt = inside j p in omega arith
 
 hooked_first : (ls : List Link) (h n : ℕ) (r : Row) → n < length ls → Inside ls h n → Hooked ls h (set ls n (link_of r h)) n n 0 r
 hooked_first ls h n r room inside = record {
@@ -111,15 +97,14 @@ hooked_first ls h n r room inside = record {
   new = refl;
   behind = λ j q p.
       ap (λ l. slot_at (set ls n (link_of r h)) l.next j) new_link
-      ∙ unvisited ls h n n (link_of r h) (away ls h n (link_of r h) inside) j (omega arith);
+      ∙ unvisited ls h n n (link_of r h) (away ls h n inside) j (omega arith);
 } where
   new_link : link_at (set ls n (link_of r h)) n ≡ link_of r h
   new_link = link_set_same ls n (link_of r h) room
 
 -- the links after a row is hooked in, in slot n, behind the one in slot p
 abbrev pub hooked_links : List Link → (n p : ℕ) → Row → List Link
-hooked_links ls n p r =
-    let hung_in : List Link = set ls n (link_of r (link_at ls p).next) in set hung_in p (link_of (link_at hung_in p).row n)
+hooked_links ls n p r = set (set ls p (link_of (link_at ls p).row n)) n (link_of r (link_at ls p).next)
 
 module _ (ls : List Link) (h n k : ℕ) (r : Row) (room : n < length ls) (in_chain : k < n) (up : Rising (walked ls h n)) (inside : Inside ls h n) where
   abbrev p : ℕ
@@ -129,7 +114,7 @@ module _ (ls : List Link) (h n k : ℕ) (r : Row) (room : n < length ls) (in_cha
   hung = link_of r (link_at ls p).next
 
   abbrev bent : Link
-  bent = link_of (link_at (set ls n hung) p).row n
+  bent = link_of (link_at ls p).row n
 
   abbrev ls' : List Link
   ls' = hooked_links ls n p r
@@ -138,16 +123,16 @@ module _ (ls : List Link) (h n k : ℕ) (r : Row) (room : n < length ls) (in_cha
   p_inside = inside k in_chain
 
   at_new : link_at ls' n ≡ hung
-  at_new = link_set_other (set ls n hung) p n bent (omega (arith, p_inside)) ∙ link_set_same ls n hung room
+  at_new = link_set_same (set ls p bent) n hung (simp length-set room)
 
   at_bent : link_at ls' p ≡ bent
-  at_bent = link_set_same (set ls n hung) p bent (simp length-set (omega (arith, p_inside)))
+  at_bent = link_set_other (set ls p bent) n p hung (omega (arith, p_inside)) ∙ link_set_same ls p bent (omega (arith, p_inside))
 
   at_other : (s : ℕ) → s < n → s ≢ p → link_at ls' s ≡ link_at ls s
-  at_other s lt ne = link_set_other (set ls n hung) p s bent ne ∙ link_set_other ls n s hung (omega arith)
+  at_other s lt ne = link_set_other (set ls p bent) n s hung (omega arith) ∙ link_set_other ls p s bent ne
 
   same_row : (s : ℕ) → s < n → (link_at ls' s).row ≡ (link_at ls s).row
-  same_row s lt = ⊎_elim (λ e. ap (λ x. (link_at ls' x).row) e ∙ ap (λ l. l.row) at_bent ∙ ap (λ l. l.row) (link_set_other ls n p hung (omega (arith, p_inside)))
+  same_row s lt = ⊎_elim (λ e. ap (λ x. (link_at ls' x).row) e ∙ ap (λ l. l.row) at_bent
       ∙ ap (λ x. (link_at ls x).row) (sym e))
       (λ ne. ap (λ l. l.row) (at_other s lt ne)) (cases_eq s p)
 

@@ -1,5 +1,5 @@
 // Shelves that rows are put on.
-ghost use Rattle.std.specs.Prelude.{◌≡◌, ℕ, ◌≤◌};
+ghost use Rattle.std.specs.Prelude.{◌≡◌, ℕ, ◌≤◌, length, nat_le};
 ghost use Rattle.shelf.specs.Rows.{most_rows};
 ghost use Rattle.shelf.specs.Changes.{Put, Set, IfRefused};
 
@@ -15,6 +15,13 @@ pub trait Keeping: Reading {
 
     fn capacity(&self) -> usize
         ensures { result ≡ capacity self.now };
+
+    // Whether there is no room for another row.
+    fn is_full(&self) -> bool
+        ensures { result ≡ nat_le (capacity self.now) (length (Self.Reading.rows self.now)) }
+    {
+        self.count() >= self.capacity()
+    }
 
     // Sets a row in by its label. Refused where a row has the label, and then where the shelf is full.
     fn put(&mut self, row: Row) -> Result<(), ShelfFault>

@@ -1,4 +1,4 @@
-// A keeping shelf that is lent is a shelf, for code that holds its shelf by value. It means what the lent shelf means.
+// A shelf that is lent for changing is itself a shelf, reading or keeping as the one lent, for code that holds its shelf by value. It means what the lent shelf means.
 use crate::fault::ShelfFault;
 use crate::keeping::Keeping;
 use crate::reading::Reading;

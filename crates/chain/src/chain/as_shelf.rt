@@ -1,5 +1,5 @@
 // The chain as a shelf.
-ghost use Rattle.std.specs.Prelude.{◌≡◌, min, [], length, nat_le};
+ghost use Rattle.std.specs.Prelude.{◌≡◌, min, [], length};
 ghost use Rattle.shelf.specs.Rows.{most_rows};
 ghost use Rattle.shelf.specs.Changes.{Put, Set, IfRefused};
 ghost use Rattle.chain.specs.Chains.{chain_rows, chain_capacity, chain_lawful, chain_bounded, Stays};
@@ -21,13 +21,6 @@ impl<'a> Chain<'a> {
             len: 0,
         }
     }
-
-    // Whether there is no room for another row.
-    fn is_full(&self) -> bool
-        ensures { result ≡ nat_le (chain_capacity self.now) (length (chain_rows self.now)) }
-    {
-        self.count() >= self.capacity()
-    }
 }
 
 impl<'a> Reading for Chain<'a> {
@@ -39,7 +32,7 @@ impl<'a> Reading for Chain<'a> {
         self.len
     }
 
-    // Kept: a chain has no slice of its rows whose `get` could answer, and `bool::then` says the same with a closure around the same index.
+    // Kept: a chain has no slice of its rows whose `get` could answer. `bool::then` was tried, and the proof learns nothing of what its closure answers, since that calls `slot`.
     fn row(&self, index: usize) -> Option<Row> {
         if index < self.count() {
             Some(self.links[self.slot(index)].row)
@@ -73,13 +66,14 @@ impl<'a> Keeping for Chain<'a> {
         let Err(vacancy) = self.seat(row.label) else {
             return Err(ShelfFault::Held);
         };
-        if self.is_full() {
+        if (*self).is_full() {
             return Err(ShelfFault::Full);
         }
         self.hook(vacancy.before, row);
         Ok(())
     }
 
+    // Kept: the table's `set` has this body over its own `restate`. One `set` in the trait would need a public `restate` in it, which asks its caller for an index in range, and no public function may ask for anything.
     fn set(&mut self, index: usize, state: State, card: u64) -> Result<(), ShelfFault>
         ensures rows { Set (chain_rows self.old) index state card result (chain_rows self.new) }
         ensures capacity { chain_capacity self.new ≡ chain_capacity self.old }

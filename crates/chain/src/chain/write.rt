@@ -7,6 +7,7 @@ ghost use Rattle.chain.specs.Chains.{chain_rows, chain_capacity, ComesBehind, St
 use super::Chain;
 use crate::link::Link;
 use shelf::{Row, State};
+use std::mem;
 
 impl<'a> Chain<'a> {
     // Sets a row in by its label, behind the one in a slot or before all. It goes into the first free slot, and no other row is touched:
@@ -20,22 +21,12 @@ impl<'a> Chain<'a> {
         ensures stays { Stays self.old self.new }
     {
         let free = self.len;
-        match before {
-            None => {
-                self.links[free] = Link {
-                    row,
-                    next: self.head,
-                };
-                self.head = free as u16;
-            }
-            Some(slot) => {
-                self.links[free] = Link {
-                    row,
-                    next: self.links[slot].next,
-                };
-                self.links[slot].next = free as u16;
-            }
-        }
+        let links = &mut *self.links;
+        let next = match before {
+            None => mem::replace(&mut self.head, free as u16),
+            Some(slot) => mem::replace(&mut links[slot].next, free as u16),
+        };
+        links[free] = Link { row, next };
         self.len = free + 1;
     }
 

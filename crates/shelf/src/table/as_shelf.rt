@@ -1,5 +1,5 @@
 // The ordered table as a shelf.
-ghost use Rattle.std.specs.Prelude.{◌≡◌, min, [], length, nat_le};
+ghost use Rattle.std.specs.Prelude.{◌≡◌, min, [], length};
 ghost use Rattle.shelf.specs.Rows.{most_rows};
 ghost use Rattle.shelf.specs.Tables.{table_rows, table_capacity, table_lawful, table_bounded};
 
@@ -27,13 +27,6 @@ impl<'a> OrderedTable<'a> {
         ensures { result.now ≡ table_rows self.now }
     {
         &self.slots[..self.len]
-    }
-
-    // Whether there is no room for another row.
-    fn is_full(&self) -> bool
-        ensures { result ≡ nat_le (table_capacity self.now) (length (table_rows self.now)) }
-    {
-        self.count() >= self.capacity()
     }
 }
 
@@ -68,7 +61,7 @@ impl<'a> Keeping for OrderedTable<'a> {
         let Err(at) = self.seek(row.label) else {
             return Err(ShelfFault::Held);
         };
-        if self.is_full() {
+        if (*self).is_full() {
             return Err(ShelfFault::Full);
         }
         self.insert(at, row);

@@ -9,7 +9,7 @@ use super::OrderedTable;
 use crate::row::{Row, State};
 
 // Sets the row in at an index of the first `len` rows. Those from there on move up by one slot.
-fn insert(slots: &mut [Row], len: usize, at: usize, row: Row)
+fn insert_row(slots: &mut [Row], len: usize, at: usize, row: Row)
     requires within { at ≤ len }
     requires room { len < length slots.old }
     ensures { slots.new ≡ insert (take len slots.old) at row ++ drop (len + 1) slots.old }
@@ -27,7 +27,7 @@ impl<'a> OrderedTable<'a> {
         ensures rows { table_rows self.new ≡ with_row (table_rows self.old) row }
         ensures capacity { table_capacity self.new ≡ table_capacity self.old }
     {
-        insert(self.slots, self.len, at, row);
+        insert_row(self.slots, self.len, at, row);
         self.len += 1;
     }
 

@@ -1,6 +1,6 @@
 use Rattle.std.proofs.Common.{set, ap, ◌∙◌}
 use Rattle.shelf.proofs.Shifts.{inserted_by_copy}
-use Rattle.shelf.proofs.table.write.insert.Goals as goal
+use Rattle.shelf.proofs.table.write.insert_row.Goals as goal
 
 pub returns : goal.returns
 returns c =
