@@ -1,6 +1,6 @@
 // Firing cards: the steps of a firing.
 ghost use Rattle.std.specs.Prelude.{◌≡◌, Some};
-ghost use Rattle.card.specs.Bounds.{Within};
+ghost use Rattle.card.specs.Bounds.{MadeOfTwo, Within, bounded};
 ghost use Rattle.card.specs.Firing.{LawfulWord, code, cool_of, decode, hold_of, packed, ramp_of, written};
 ghost use Rattle.card.specs.Reading.{Reads};
 ghost use Rattle.card.specs.StepKinds.{number};
@@ -41,6 +41,18 @@ pub enum FiringCard {
     Cool(Target, Rate),
 }
 
+// The card that `make` makes of a target and a rate, if both numbers lie in their ranges.
+fn slope<Make: FnOnce(Target, Rate) -> FiringCard>(
+    make: Make,
+    target: u64,
+    rate: u64,
+) -> Result<FiringCard, CardFault>
+    requires { Make.IsAlwaysCallable make }
+    ensures { MadeOfTwo (Make.post make) (bounded 20 1200 target) (bounded 1 600 rate) result }
+{
+    Ok(make(Target::new(target)?, Rate::new(rate)?))
+}
+
 impl FiringCard {
     // The section card. There is only one, and it has no numbers.
     pub fn section() -> FiringCard
@@ -49,19 +61,19 @@ impl FiringCard {
         Self::Section
     }
 
-    // Kept: `ramp` and `cool` differ in the variant alone, but over a shared function each would be longer: `let (target, rate) = slope(target, rate)?; Ok(FiringCard::Ramp(target, rate))`.
-
     // `made` says which card comes of which numbers. `lawful` says it by ranges: a card comes exactly when both numbers
-    // lie in theirs, and it is the card with the word that the numbers make. So it is for the two calls below.
-
+    // lie in theirs, and it is the card with the word that the numbers make. So it is for `hold` and `cool`.
+    //
     // The ramp to a target of 20 to 1200 °C at a rate of 1 to 600 °C per hour.
     pub fn ramp(target: u64, rate: u64) -> Result<FiringCard, CardFault>
         ensures made { result ≡ ok_or (ramp_of target rate) NoCard }
         ensures lawful { Reads code (Within 20 1200 target × Within 1 600 rate) (packed 2 target rate 0) result }
     {
-        Ok(FiringCard::Ramp(Target::new(target)?, Rate::new(rate)?))
+        slope(FiringCard::Ramp, target, rate)
     }
 
+    // Kept: not over `slope`, since a function for both would take an `FnOnce(Target, Bounded<LOW, HIGH>)`, and the borrow checker does not cover a bound that names a const parameter.
+    //
     // The hold at a target of 20 to 1200 °C for 1 to 1440 minutes.
     pub fn hold(target: u64, minutes: u64) -> Result<FiringCard, CardFault>
         ensures made { result ≡ ok_or (hold_of target minutes) NoCard }
@@ -75,7 +87,7 @@ impl FiringCard {
         ensures made { result ≡ ok_or (cool_of target rate) NoCard }
         ensures lawful { Reads code (Within 20 1200 target × Within 1 600 rate) (packed 4 target rate 0) result }
     {
-        Ok(FiringCard::Cool(Target::new(target)?, Rate::new(rate)?))
+        slope(FiringCard::Cool, target, rate)
     }
 }
 
