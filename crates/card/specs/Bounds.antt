@@ -1,8 +1,6 @@
 -- Numbers within bounds.
-use Rattle.std.specs.Prelude.{◌≡◌, ℕ, ◌≤◌, Bool, true, false, ◌&&◌, Some, None, Option, Ok, Err, Result, nat_le, refl}
+use Rattle.std.specs.Prelude.{◌≡◌, ℕ, ◌≤◌, Bool, true, false, ◌&&◌, Some, None, Option, nat_le, refl}
 use Rattle.card.specs.declared.bounded.Bounded.{Bounded}
-use Rattle.card.specs.declared.fault.CardFault.{CardFault}
-use Rattle.card.specs.declared.fault.CardFault.TheVariants.{NoCard}
 use Rattle.std.proofs.lemmas.Bool.{and_parts, leb-true}
 
 -- n is one of low, low + 1, .., high
@@ -27,9 +25,3 @@ abbrev pub both : {A B C : Type 0} → (A → B → C) → Option A → Option B
 both f (Some a) (Some b) = Some (f a b)
 both f (Some a) None = None
 both f None o = None
-
--- r is what Made says of two things, where both are there, and no card else
-abbrev pub MadeOfTwo : {A B C : Type 0} (Made : A → B → C → Type 0) → Option A → Option B → Result C CardFault → Type 0
-MadeOfTwo Made (Some a) (Some b) r = (c : _) × (r ≡ Ok c) × Made a b c
-MadeOfTwo Made (Some a) None r = r ≡ Err NoCard
-MadeOfTwo Made None o r = r ≡ Err NoCard

@@ -1,6 +1,6 @@
 // Firing cards: the steps of a firing.
-ghost use Rattle.std.specs.Prelude.{◌≡◌, Some};
-ghost use Rattle.card.specs.Bounds.{MadeOfTwo, Within, bounded};
+ghost use Rattle.std.specs.Prelude.{◌≡◌, Err, IsOkAnd, MatchOption, Some};
+ghost use Rattle.card.specs.Bounds.{Within, bounded};
 ghost use Rattle.card.specs.Firing.{LawfulWord, code, cool_of, decode, hold_of, packed, ramp_of, written};
 ghost use Rattle.card.specs.Reading.{Reads};
 ghost use Rattle.card.specs.StepKinds.{number};
@@ -41,16 +41,16 @@ pub enum FiringCard {
     Cool(Target, Rate),
 }
 
-// The card that `make` makes of a target and a rate, if both numbers lie in their ranges.
-fn slope<Make: FnOnce(Target, Rate) -> FiringCard>(
+// The card that `make` makes of a target and a further number, if the target lies in its range.
+fn aimed<N: Copy, Make: FnOnce(Target, N) -> FiringCard>(
     make: Make,
     target: u64,
-    rate: u64,
+    number: N,
 ) -> Result<FiringCard, CardFault>
     requires { Make.IsAlwaysCallable make }
-    ensures { MadeOfTwo (Make.post make) (bounded 20 1200 target) (bounded 1 600 rate) result }
+    ensures { MatchOption (bounded 20 1200 target) (result ≡ Err NoCard) (λ t. IsOkAnd result (Make.post make t number)) }
 {
-    Ok(make(Target::new(target)?, Rate::new(rate)?))
+    Ok(make(Target::new(target)?, number))
 }
 
 impl FiringCard {
@@ -69,17 +69,15 @@ impl FiringCard {
         ensures made { result ≡ ok_or (ramp_of target rate) NoCard }
         ensures lawful { Reads code (Within 20 1200 target × Within 1 600 rate) (packed 2 target rate 0) result }
     {
-        slope(FiringCard::Ramp, target, rate)
+        aimed(FiringCard::Ramp, target, Rate::new(rate)?)
     }
 
-    // Kept: not over `slope`, since a function for both would take an `FnOnce(Target, Bounded<LOW, HIGH>)`, and the borrow checker does not cover a bound that names a const parameter.
-    //
     // The hold at a target of 20 to 1200 °C for 1 to 1440 minutes.
     pub fn hold(target: u64, minutes: u64) -> Result<FiringCard, CardFault>
         ensures made { result ≡ ok_or (hold_of target minutes) NoCard }
         ensures lawful { Reads code (Within 20 1200 target × Within 1 1440 minutes) (packed 3 target 0 minutes) result }
     {
-        Ok(FiringCard::Hold(Target::new(target)?, Minutes::new(minutes)?))
+        aimed(FiringCard::Hold, target, Minutes::new(minutes)?)
     }
 
     // The cooling to a target of 20 to 1200 °C at a rate of 1 to 600 °C per hour.
@@ -87,7 +85,7 @@ impl FiringCard {
         ensures made { result ≡ ok_or (cool_of target rate) NoCard }
         ensures lawful { Reads code (Within 20 1200 target × Within 1 600 rate) (packed 4 target rate 0) result }
     {
-        slope(FiringCard::Cool, target, rate)
+        aimed(FiringCard::Cool, target, Rate::new(rate)?)
     }
 }
 
