@@ -1,6 +1,6 @@
 // Firing cards: the steps of a firing.
-ghost use Rattle.std.specs.Prelude.{◌≡◌, Some};
-ghost use Rattle.card.specs.Bounds.{Within};
+ghost use Rattle.std.specs.Prelude.{◌≡◌, Err, IsOkAnd, MatchOption, Some};
+ghost use Rattle.card.specs.Bounds.{Within, bounded};
 ghost use Rattle.card.specs.Firing.{LawfulWord, code, cool_of, decode, hold_of, packed, ramp_of, written};
 ghost use Rattle.card.specs.Reading.{Reads};
 ghost use Rattle.card.specs.StepKinds.{number};
@@ -41,6 +41,18 @@ pub enum FiringCard {
     Cool(Target, Rate),
 }
 
+// The card that `make` makes of a target and a further number, if the target lies in its range.
+fn aimed<N: Copy, Make: FnOnce(Target, N) -> FiringCard>(
+    make: Make,
+    target: u64,
+    number: N,
+) -> Result<FiringCard, CardFault>
+    requires { Make.IsAlwaysCallable make }
+    ensures { MatchOption (bounded 20 1200 target) (result ≡ Err NoCard) (λ t. IsOkAnd result (Make.post make t number)) }
+{
+    Ok(make(Target::new(target)?, number))
+}
+
 impl FiringCard {
     // The section card. There is only one, and it has no numbers.
     pub fn section() -> FiringCard
@@ -49,17 +61,15 @@ impl FiringCard {
         Self::Section
     }
 
-    // Kept: `ramp` and `cool` differ in the variant alone, but over a shared function each would be longer: `let (target, rate) = slope(target, rate)?; Ok(FiringCard::Ramp(target, rate))`.
-
     // `made` says which card comes of which numbers. `lawful` says it by ranges: a card comes exactly when both numbers
-    // lie in theirs, and it is the card with the word that the numbers make. So it is for the two calls below.
-
+    // lie in theirs, and it is the card with the word that the numbers make. So it is for `hold` and `cool`.
+    //
     // The ramp to a target of 20 to 1200 °C at a rate of 1 to 600 °C per hour.
     pub fn ramp(target: u64, rate: u64) -> Result<FiringCard, CardFault>
         ensures made { result ≡ ok_or (ramp_of target rate) NoCard }
         ensures lawful { Reads code (Within 20 1200 target × Within 1 600 rate) (packed 2 target rate 0) result }
     {
-        Ok(FiringCard::Ramp(Target::new(target)?, Rate::new(rate)?))
+        aimed(FiringCard::Ramp, target, Rate::new(rate)?)
     }
 
     // The hold at a target of 20 to 1200 °C for 1 to 1440 minutes.
@@ -67,7 +77,7 @@ impl FiringCard {
         ensures made { result ≡ ok_or (hold_of target minutes) NoCard }
         ensures lawful { Reads code (Within 20 1200 target × Within 1 1440 minutes) (packed 3 target 0 minutes) result }
     {
-        Ok(FiringCard::Hold(Target::new(target)?, Minutes::new(minutes)?))
+        aimed(FiringCard::Hold, target, Minutes::new(minutes)?)
     }
 
     // The cooling to a target of 20 to 1200 °C at a rate of 1 to 600 °C per hour.
@@ -75,7 +85,7 @@ impl FiringCard {
         ensures made { result ≡ ok_or (cool_of target rate) NoCard }
         ensures lawful { Reads code (Within 20 1200 target × Within 1 600 rate) (packed 4 target rate 0) result }
     {
-        Ok(FiringCard::Cool(Target::new(target)?, Rate::new(rate)?))
+        aimed(FiringCard::Cool, target, Rate::new(rate)?)
     }
 }
 

@@ -48,6 +48,7 @@ pub fn makes_card<C: Card>(word: u64) -> bool
 }
 
 // Whether two cards are the same: exactly when their words are.
+// Kept: equality by the words, since a bound `PartialEq` would ask more of callers: a kind of card need not have it.
 pub fn same_card<C: Card>(one: C, other: C) -> bool
     ensures { Decides result (one ≡ other) }
 {

@@ -1,5 +1,7 @@
 -- The theorems on labels and their words. Assumes nothing.
-use Rattle.std.proofs.Common.{◌≡◌, ℕ, suc, ◌+◌, ◌-◌, ◌^◌, ◌<◌, ◌≤◌, true, eqb, ltb, ◌⊎◌, IfOk, Some, None, Ok, Err, Result, sym, refl, ap, ◌∙◌, subst, inl, inr, arith, pow_pos}
+use Rattle.std.proofs.Common.{◌≡◌, ℕ, suc, ◌+◌, ◌-◌, ◌^◌, ◌<◌, ◌≤◌, true, eqb, ltb, ◌⊎◌, IfOk, Some, None, Option, Ok, Err, Result, sym, refl, ap, ◌∙◌, subst, inl, inr, arith, pow_pos}
+use Rattle.std.specs.Prelude.{MatchOption, IsSomeAnd}
+use Rattle.std.specs.Option.{SomeIff}
 use Rattle.std.proofs.lemmas.Bool.{cond_both, both_ways, eqb-true, eqb-false, ltb-true, ltb-false}
 use Rattle.label.specs.declared.relation.Relation.{Relation}
 use Rattle.label.specs.Label.{Label, end, next, down, bits, parent, Lawful, word}
@@ -211,14 +213,21 @@ module _ (w : ℕ → ℕ → ℕ) (N : ℕ) where
 
   -- the same of a word that was read
   module _ (x : ℕ) (reading : WordReading) (read : Reads w N x (Ok reading)) where
-    pub ends_led : (bound : ℕ) → bound ≡ x + 2 ^ (N - 1 - reading.bits) → EndsLed w N x (Ok (Some bound))
+    ends_led : (bound : ℕ) → bound ≡ x + 2 ^ (N - 1 - reading.bits) → EndsLed w N x (Ok (Some bound))
     ends_led bound is =
         let (c, of, it) = read in
         let e : N - 1 - reading.bits ≡ N - bits w 1 0 c - 1 = omega (arith, ap (λ (q : WordReading). q.bits) it) in
         (c, of, led_to c bound of.0 (is ∙ omega (arith, of.1, ap (λ (j : ℕ). 2 ^ j) e)))
 
-    pub ends_none : N ≤ reading.bits → EndsLed w N x (Ok None)
+    ends_none : N ≤ reading.bits → EndsLed w N x (Ok None)
     ends_none all = let (c, of, it) = read in (c, of, led_none c (omega (arith, all, ap (λ (q : WordReading). q.bits) it)))
+
+    -- the end that Made says of the number of bits behind the separator, if there are any
+    pub ends_made : (Made : ℕ → ℕ → Type 0) → ((k bound : ℕ) → Made k bound → bound ≡ x + 2 ^ k) → (behind r : Option ℕ) → SomeIff behind (reading.bits ≤ N - 1) (N - 1 - reading.bits)
+        → MatchOption behind (r ≡ None) (λ k. IsSomeAnd r (Made k)) → EndsLed w N x (Ok r)
+    ends_made Made by None r few e = subst (λ (q : Option ℕ). EndsLed w N x (Ok q)) (sym e) (ends_none (omega (arith, few)))
+    ends_made Made by (Some k) None is h = absurd h
+    ends_made Made by (Some k) (Some bound) (few, e) h = ends_led bound (by k bound h ∙ ap (λ (j : ℕ). x + 2 ^ j) e)
 
     -- the end fits a word
     pub end_fits : reading.bits < N → x + 2 ^ (N - 1 - reading.bits) < 2 ^ N

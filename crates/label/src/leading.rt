@@ -13,8 +13,9 @@ pub fn led_end<P: WidthPlan>(plan: &P, word: Word) -> Result<Option<Word>, Label
     ensures { EndsLed (P.width plan.now) word_bits word result }
 {
     let reading = read(plan, word)?;
-    if reading.bits >= WORD_BITS {
-        return Ok(None);
-    }
-    Ok(Some(word + power(WORD_BITS - 1 - reading.bits)))
+    Ok(
+        (WORD_BITS - 1)
+            .checked_sub(reading.bits)
+            .map(|behind| word + power(behind)),
+    )
 }

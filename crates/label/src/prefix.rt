@@ -4,6 +4,7 @@ ghost use Rattle.label.specs.Label.{word_bits};
 
 use crate::relation::Relation;
 use crate::word::{WORD_BITS, Word};
+use std::cmp::Ordering;
 
 // The first `bits` bits of a word.
 #[derive(Clone, Copy)]
@@ -38,16 +39,12 @@ impl Prefix {
     pub(crate) fn relation_to(self, other: Prefix) -> Relation
         ensures { result ≡ relation_of word_bits self.bits other.bits self.word other.word }
     {
-        if self.word == other.word {
-            Relation::Same
-        } else if self.leads(other) {
-            Relation::Above
-        } else if other.leads(self) {
-            Relation::Below
-        } else if self.word < other.word {
-            Relation::Before
-        } else {
-            Relation::After
+        match self.word.cmp(&other.word) {
+            Ordering::Equal => Relation::Same,
+            _ if self.leads(other) => Relation::Above,
+            _ if other.leads(self) => Relation::Below,
+            Ordering::Less => Relation::Before,
+            Ordering::Greater => Relation::After,
         }
     }
 }

@@ -46,15 +46,14 @@ pub fn relate<P: WidthPlan>(plan: &P, a: Word, b: Word) -> Result<Relation, Labe
 {
     let first = read(plan, a)?;
     let second = read(plan, b)?;
-    let first = Prefix {
+    Ok(Prefix {
         word: a,
         bits: first.bits,
-    };
-    let second = Prefix {
+    }
+    .relation_to(Prefix {
         word: b,
         bits: second.bits,
-    };
-    Ok(first.relation_to(second))
+    }))
 }
 
 // For all widths and any number of bits: labels are the lists of levels that have a level and no empty one; two words are equal exactly for equal labels; a word is a lawful label's or

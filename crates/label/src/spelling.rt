@@ -7,7 +7,7 @@ use crate::subvalue::Subvalue;
 pub const MOST_SUBVALUES: usize = 32;
 
 // The subvalues of a label from left to right.
-// Kept: an array with a length beside it, since no heap is allowed below the program, callers copy the type, and the ArrayVec of the crate arrayvec is not Copy.
+// Kept: an array with a length beside it, since no heap is allowed below the program, and Spelling is a public Copy type, as the program's answers are, while the ArrayVec of the crate arrayvec is not Copy.
 #[derive(Clone, Copy)]
 pub struct Spelling {
     subvalues: [Subvalue; MOST_SUBVALUES],

@@ -6,10 +6,8 @@ use std::test::Fail;
 #[test]
 fn a_label_is_printed_by_its_levels(rt: HostRuntime) -> Result<(), Fail> {
     let plan = PositionPlan::plan4();
-    let Ok(label) = take_apart(&plan, 0x10C2_2000_0000_0000) else {
-        return Err(Fail::new("the word of 1.1/0/1 is turned down"));
-    };
+    let label = take_apart(&plan, 0x10C2_2000_0000_0000)?;
     let text = label.to_string(rt.alloc())?;
-    assert!(rt; text.as_str() == "1.1/0/1");
+    assert_eq!(rt; text.as_str(), "1.1/0/1");
     Ok(())
 }

@@ -19,10 +19,7 @@ impl<'a, P: WidthPlan, S: Reading> PlannedShelf<'a, P, S> {
         ensures { Neighbours (labels P.WidthPlan self.now) (rows S.Reading self.now) site.place site.label parent result }
     {
         let Some(end) = led_up_to(self.plan, parent) else {
-            return Bounds {
-                lower: None,
-                upper: None,
-            };
+            return Bounds::default();
         };
         match site.place {
             Where::FirstUnder => {

@@ -7,8 +7,7 @@ impl fmt::Display for Spelling {
     fn fmt<W: fmt::Write>(&self, f: &mut fmt::Formatter<W>) -> fmt::Result {
         let mut separator = "";
         for subvalue in self.as_slice() {
-            let value = subvalue.value;
-            write!(f, "{separator}{value}")?;
+            write!(f, "{separator}{}", subvalue.value)?;
             separator = if subvalue.ends_level { "." } else { "/" };
         }
         Ok(())

@@ -17,10 +17,10 @@ returns g c =
     let p : ℕ = c.args.parent in
     let found =
     first_from_find _ _ c.find.result (IsChild L rs up p) (λ (x : Row). ¬ (IsChild L rs up p x)) c.find.ensures.ran
-    (YieldsList-from_take_while _ (low rs up c.args.start c.args.bound)
+    (YieldsList-from_take_while _ (low rs up c.args.start c.args.end)
     (YieldsList-from_first (λ (x : Row). x) (λ (xs : List Row). xs) (stretch rs c.args.start (length rs))
     (c.take_while.ensures.source ∙ c.new.ensures ∙ ap (stretch rs c.args.start) c.count.ensures))
     c.take_while.ensures.closure c.take_while.ensures.done (λ x b q k. search (rules, tests)))
     (λ x q k. search (rules, tests)) (λ x q k. search (rules, tests)) in
     subst (FirstChild L rs p c.args.start) (mapped _ (λ (x : Row). x.label) (λ x y k. search (rules, tests)) c.find.result c.map.result c.map.ensures.cases)
-    (first_walk L rs up p c.args.bound c.args.start c.requires c.find.result found)
+    (first_walk L rs up p c.args.end c.args.start c.requires c.find.result found)

@@ -20,9 +20,9 @@ returns g c =
     let p : ℕ = c.args.parent in
     let found =
     first_from_find _ _ c.find.result (IsChild L rs up p) (λ (x : Row). ¬ (IsChild L rs up p x)) c.find.ensures.ran
-    (YieldsList-from_take_while _ (high L rs up p c.args.end)
-    (YieldsList-at c.take_while.ensures.source (rows_back c.rev.result (stretch rs 0 c.args.end) (c.rev.ensures.source ∙ c.new.ensures)))
+    (YieldsList-from_take_while _ (high L rs up p c.args.count)
+    (YieldsList-at c.take_while.ensures.source (rows_back c.rev.result (stretch rs 0 c.args.count) (c.rev.ensures.source ∙ c.new.ensures)))
     c.take_while.ensures.closure c.take_while.ensures.done (λ x b q k. search (rules, tests)))
     (λ x q k. search (rules, tests)) (λ x q k. search (rules, tests)) in
-    subst (LastChild L rs p c.args.end) (mapped _ (λ (x : Row). x.label) (λ x y k. search (rules, tests)) c.find.result c.map.result c.map.ensures.cases)
-    (last_walk L rs up p c.args.end S c.find.result found)
+    subst (LastChild L rs p c.args.count) (mapped _ (λ (x : Row). x.label) (λ x y k. search (rules, tests)) c.find.result c.map.result c.map.ensures.cases)
+    (last_walk L rs up p c.args.count S c.find.result found)
