@@ -30,7 +30,7 @@ pub trait Keeping: Reading {
         ensures refused { IfRefused result (self.new ≡ self.old) };
 
     // Gives the row at an index another state and card word. Refused past the end.
-    // Kept: a state and a card word are no type of their own, since the customer's call takes them side by side, and a row has a field for each.
+    // Kept: a state and a card word are no type of their own: a row has a field for each, and `set(index, Content { state, card })`, here and where a shelf restates a row, is longer than `set(index, state, card)`.
     fn set(&mut self, index: usize, state: State, card: u64) -> Result<(), ShelfFault>
         ensures rows { Set (Self.Reading.rows self.old) index state card result (Self.Reading.rows self.new) }
         ensures capacity { capacity self.new ≡ capacity self.old }

@@ -29,7 +29,7 @@ pub trait Reading {
     fn seek(&self, label: Word) -> Result<usize, usize>
         ensures { Sought (rows self.now) label result }
     {
-        // Kept: the library searches slices alone, and a slice of these rows, made first, would ask for every row, where halving asks for twelve at most.
+        // Kept: for shelves without a slice of their rows; the library searches slices alone, and one made first would ask for every row, where halving asks for twelve at most.
         let mut low = 0;
         let mut high = self.count();
         while low < high {
