@@ -32,7 +32,7 @@ impl<'a> Reading for Chain<'a> {
         self.len
     }
 
-    // Kept: a chain has no slice of its rows whose `get` could answer. `bool::then` was tried, and the proof learns nothing of what its closure answers, since that calls `slot`.
+    // Kept: a chain has no slice of its rows whose `get` could answer. `bool::then` was tried, and it tells the proof nothing of what this closure answers, even where the closure has an `ensures` of its own.
     fn row(&self, index: usize) -> Option<Row> {
         if index < self.count() {
             Some(self.links[self.slot(index)].row)
