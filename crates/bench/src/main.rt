@@ -1,4 +1,4 @@
-// Measures how long it takes to read a word and to find a label between two, under plan 4, and to put a row on each shelf, find and rank one there.
+// Measures how long it takes to read a word and to find a label between two, under plan 4, and to put, find and rank a row on each of the two shelves.
 // `bench COUNT` prints checksums over COUNT calls of each kind and the nanoseconds for one; with no word it makes 1000 calls of each and prints the checksums alone.
 // Of puts there are always as many as a shelf has room for: they fill it.
 #![tactic(auto)]
