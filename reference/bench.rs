@@ -1,4 +1,4 @@
-//! Measuring how long reading a word and finding a label between take.
+//! Measuring how long reading a word and finding a label between take, and putting, finding and ranking rows.
 //!
 //! The inputs are defined so simply that another program can make exactly the same and be held against the checksums:
 //!
@@ -14,6 +14,16 @@
 //!   openings. The parent is `PARENTS[x & 7]`; the lower bound is the parent's word + (y >> 8), the upper one is the
 //!   lower + (z >> 12), both saturating at 2^64 - 1. The checksum is the wrapping sum of the words found, or of 1
 //!   where there is none.
+//! - Labels of rows: from a third fresh generator, started like the first, 2,048 outputs as they come; no two are equal.
+//!   They are put, one after the other, on a shelf that is empty at first and keeps its rows by rising labels. The
+//!   checksum is the wrapping sum of the labels put, or of the number of the refusal.
+//! - Labels asked for: from the third generator, behind the labels of rows, one output x for each of COUNT questions.
+//!   Where x is odd, it is the label, and no row has it; where x is even, the label is that of the row that was put as
+//!   number (x >> 1) mod 2,048, the first being number 0. Finding adds the index of the label's row among all rows,
+//!   or 2,048 where there is none; ranking adds how many rows have a smaller label. Both ask for the same labels.
+//!
+//! The product has two shelves, and measures these three calls on each. Here there is one, a `Vec` of rows as one would
+//! write it in Rust; it is measured twice, once under the names of each of the product's.
 //!
 //! Inputs are made before the clock starts, and the clock covers nothing but the calls and their summing up.
 
@@ -40,14 +50,34 @@ pub const PARENTS: [u64; 8] = [
 /// One opening: parent and bounds.
 type Opening = (u64, u64, u64);
 
-/// Runs both measurements and reports a line of each.
+/// How many rows a shelf has room for.
+const MOST_ROWS: usize = 2048;
+
+/// A row, as large as one of the product's. Only the label is looked at.
+#[derive(Clone, Copy)]
+struct Row {
+    label: u64,
+    _state: u8,
+    _card: u64,
+}
+
+/// Runs all measurements and reports a line of each.
 pub fn bench(count: usize) -> String {
     let scheme = Scheme::new(Plan::four(), 64);
     let words = words(count);
     let openings = openings(count);
-    let read = measure("read", &words, |&word| read_sum(&scheme, word));
-    let between = measure("between", &openings, |&opening| between_sum(&scheme, opening));
-    format!("{read}\n{between}\n")
+    let mut lines = vec![
+        measure("read", &words, |&word| read_sum(&scheme, word)),
+        measure("between", &openings, |&opening| between_sum(&scheme, opening)),
+    ];
+    let (labels, questions) = labels_and_questions(count);
+    for shelf in ["table", "chain"] {
+        let mut rows = Vec::with_capacity(MOST_ROWS);
+        lines.push(measure(&format!("{shelf} put"), &labels, |&label| put_sum(&mut rows, label)));
+        lines.push(measure(&format!("{shelf} find"), &questions, |&label| find_sum(&rows, label)));
+        lines.push(measure(&format!("{shelf} rank"), &questions, |&label| rank_sum(&rows, label)));
+    }
+    lines.join("\n") + "\n"
 }
 
 /// The words to read.
@@ -66,6 +96,18 @@ fn openings(count: usize) -> Vec<Opening> {
         (parent, lower, upper)
     };
     (0..count).map(|_| opening()).collect()
+}
+
+/// The labels of the rows, and the labels asked for.
+fn labels_and_questions(count: usize) -> (Vec<u64>, Vec<u64>) {
+    let mut random = SplitMix::new(SplitMix::STEP);
+    let labels: Vec<u64> = (0..MOST_ROWS).map(|_| random.next()).collect();
+    let mut question = || match random.next() {
+        x if x % 2 == 0 => labels[(x / 2) as usize % MOST_ROWS],
+        x => x,
+    };
+    let questions = (0..count).map(|_| question()).collect();
+    (labels, questions)
 }
 
 /// What one reading adds to the checksum.
@@ -87,8 +129,30 @@ fn between_sum(scheme: &Scheme, (parent, lower, upper): Opening) -> u64 {
     }
 }
 
+/// Puts a row by its label, and gives what that adds to the checksum: 3 and 4 are the numbers of the refusals.
+fn put_sum(rows: &mut Vec<Row>, label: u64) -> u64 {
+    match rows.binary_search_by_key(&label, |row| row.label) {
+        Ok(_) => 3,
+        Err(_) if rows.len() == MOST_ROWS => 4,
+        Err(index) => {
+            rows.insert(index, Row { label, _state: 0, _card: 0 });
+            label
+        }
+    }
+}
+
+/// What finding one label adds to the checksum.
+fn find_sum(rows: &[Row], label: u64) -> u64 {
+    black_box(rows.binary_search_by_key(&label, |row| row.label)).unwrap_or(MOST_ROWS) as u64
+}
+
+/// What ranking one label adds to the checksum.
+fn rank_sum(rows: &[Row], label: u64) -> u64 {
+    black_box(rows.binary_search_by_key(&label, |row| row.label)).unwrap_or_else(|index| index) as u64
+}
+
 /// Sums `call` over the inputs and reports the sum and the time for each call.
-fn measure<T>(name: &str, inputs: &[T], call: impl Fn(&T) -> u64) -> String {
+fn measure<T>(name: &str, inputs: &[T], mut call: impl FnMut(&T) -> u64) -> String {
     let start = Instant::now();
     let sum = inputs.iter().fold(0u64, |sum, input| sum.wrapping_add(call(black_box(input))));
     let nanoseconds = start.elapsed().as_nanos() as f64 / inputs.len().max(1) as f64;

@@ -25,7 +25,7 @@ reference --translate FILE           a script with labels in brackets, [1.9/1 = 
                                      as a script with words
 reference --make-labels SEED COUNT   a script of COUNT lines on labels
 reference --selftest                 check the reference itself
-reference --bench COUNT              time COUNT readings and COUNT openings
+reference --bench COUNT              time COUNT readings, openings and questions to a shelf
 ";
 
 fn main() -> ExitCode {

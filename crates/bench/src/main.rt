@@ -1,18 +1,24 @@
-// Measures how long it takes to read a word and to find a label between two, under plan 4.
+// Measures how long it takes to read a word and to find a label between two, under plan 4, and to put, find and rank a row on each of the two shelves.
 // `bench COUNT` prints checksums over COUNT calls of each kind and the nanoseconds for one; with no word it makes 1000 calls of each and prints the checksums alone.
+// Of puts there are always as many as a shelf has room for: they fill it.
 #![tactic(auto)]
 
 mod opening;
+mod question;
 mod random;
 mod sums;
 
+use chain::{Chain, Link};
+use label::Word;
 use opening::Opening;
 use plan::PositionPlan;
+use question::question;
 use random::SplitMix;
+use shelf::{Keeping, MOST_ROWS, OrderedTable, Row};
 use std::env;
 use std::iter::repeat_with;
 use std::time::Instant;
-use sums::{between_sum, read_sum};
+use sums::{between_sum, find_sum, put_sum, rank_sum, read_sum};
 
 // How many calls are made where no number is asked for.
 const UNASKED: usize = 1000;
@@ -22,33 +28,97 @@ fn each(total: u128, count: usize) -> u128 {
     total.checked_div(count as u128).unwrap_or(0)
 }
 
-// Makes inputs from the same pseudo-random numbers, and prints the sum of what the call gives for each, and the time of one where a number of calls is asked for.
-fn measure<T: Drop, Make: Fn(&mut SplitMix) -> T, Call: Fn(&T) -> u64>(
+// So many inputs, each made from the next pseudo-random numbers.
+fn inputs<T: Drop, Make: Fn(&mut SplitMix) -> T>(
     rt: &HostRuntime,
-    name: &str,
-    asked: Option<usize>,
+    random: &mut SplitMix,
+    count: usize,
     make: Make,
-    call: Call,
-) -> anyhow::Result<()>
-    requires make { (f : _) (x : _) → Make.pre f x }
-    requires call { (f : _) (x : _) → Call.pre f x }
+) -> anyhow::Result<Vec<T>>
+    requires { (f : _) (x : _) → Make.pre f x }
 {
-    let count = asked.unwrap_or(UNASKED);
-    let mut random = SplitMix::new();
-    let inputs: Vec<T> = repeat_with(|| make(&mut random))
+    let made: Vec<T> = repeat_with(|| make(random))
         .take(count)
         .collect(rt.alloc())?;
+    Ok(made)
+}
+
+// Prints the sum of what the call gives for each input, and the time of one where it is wanted.
+fn measure<T, Call: FnMut(&T) -> u64>(
+    rt: &HostRuntime,
+    name: &str,
+    timed: bool,
+    inputs: &[T],
+    call: Call,
+) -> anyhow::Result<()>
+    requires { (f : _) (x : _) → Call.pre f x }
+{
+    let count = inputs.len();
     let start = Instant::now(rt)?;
     let sum = inputs.iter().map(call).fold(0, u64::wrapping_add);
     let nanoseconds = start.elapsed(rt)?.as_nanos();
-    match asked {
-        Some(count) => {
-            let ns = each(nanoseconds, count);
-            println!(rt; "{name} count {count} checksum {sum:016X} ns {ns}")?
-        }
-        None => println!(rt; "{name} count {count} checksum {sum:016X}")?,
+    if timed {
+        let ns = each(nanoseconds, count);
+        println!(rt; "{name} count {count} checksum {sum:016X} ns {ns}")?
+    } else {
+        println!(rt; "{name} count {count} checksum {sum:016X}")?
     }
     Ok(())
+}
+
+// The calls on labels.
+fn measure_labels(rt: &HostRuntime, timed: bool, count: usize) -> anyhow::Result<()> {
+    let plan = PositionPlan::plan4();
+    let words = inputs(rt, &mut SplitMix::new(), count, |random| random.number())?;
+    measure(rt, "read", timed, &words, |word| read_sum(&plan, *word))?;
+    let openings = inputs(rt, &mut SplitMix::new(), count, Opening::random)?;
+    measure(
+        rt,
+        "between",
+        timed,
+        &openings,
+        |opening| between_sum(&plan, opening),
+    )
+}
+
+// The calls on a shelf that comes empty: it is filled, and then asked. The names are those of put, find and rank.
+fn measure_shelf<S: Keeping + Drop>(
+    rt: &HostRuntime,
+    names: [&str; 3],
+    timed: bool,
+    labels: &[Word],
+    questions: &[Word],
+    mut shelf: S,
+) -> anyhow::Result<()> {
+    let [put, find, rank] = names;
+    measure(rt, put, timed, labels, |label| put_sum(&mut shelf, *label))?;
+    measure(rt, find, timed, questions, |label| find_sum(&shelf, *label))?;
+    measure(rt, rank, timed, questions, |label| rank_sum(&shelf, *label))
+}
+
+// The calls on shelves, the same on the ordered table and on the chain.
+fn measure_shelves(rt: &HostRuntime, timed: bool, count: usize) -> anyhow::Result<()> {
+    let mut random = SplitMix::new();
+    let labels = inputs(rt, &mut random, MOST_ROWS, |random| random.number())?;
+    let questions = inputs(rt, &mut random, count, |random| question(&labels, random))?;
+    let mut rows = [Row::BLANK; MOST_ROWS];
+    measure_shelf(
+        rt,
+        ["table put", "table find", "table rank"],
+        timed,
+        &labels,
+        &questions,
+        OrderedTable::new(&mut rows),
+    )?;
+    let mut links = [Link::BLANK; MOST_ROWS];
+    measure_shelf(
+        rt,
+        ["chain put", "chain find", "chain rank"],
+        timed,
+        &labels,
+        &questions,
+        Chain::new(&mut links),
+    )
 }
 
 fn run(rt: &HostRuntime) -> anyhow::Result<()> {
@@ -56,21 +126,10 @@ fn run(rt: &HostRuntime) -> anyhow::Result<()> {
         .nth(1)
         .map(|count| count.as_str().parse::<usize>())
         .transpose()?;
-    let plan = PositionPlan::plan4();
-    measure(
-        rt,
-        "read",
-        asked,
-        |random| random.number(),
-        |word| read_sum(&plan, *word),
-    )?;
-    measure(
-        rt,
-        "between",
-        asked,
-        Opening::random,
-        |opening| between_sum(&plan, opening),
-    )
+    let timed = asked.is_some();
+    let count = asked.unwrap_or(UNASKED);
+    measure_labels(rt, timed, count)?;
+    measure_shelves(rt, timed, count)
 }
 
 fn main(rt: HostRuntime) -> anyhow::Result<()> {
