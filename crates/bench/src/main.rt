@@ -43,11 +43,11 @@ fn inputs<T: Drop, Make: Fn(&mut SplitMix) -> T>(
     Ok(made)
 }
 
-// Prints the sum of what the call gives for each input, and the time of one where it is wanted.
+// Prints the sum of what the call gives for each input, and the time of one where a number of calls is asked for.
 fn measure<T, Call: FnMut(&T) -> u64>(
     rt: &HostRuntime,
     name: &str,
-    timed: bool,
+    asked: Option<usize>,
     inputs: &[T],
     call: Call,
 ) -> anyhow::Result<()>
@@ -57,7 +57,7 @@ fn measure<T, Call: FnMut(&T) -> u64>(
     let start = Instant::now(rt)?;
     let sum = inputs.iter().map(call).fold(0, u64::wrapping_add);
     let nanoseconds = start.elapsed(rt)?.as_nanos();
-    if timed {
+    if asked.is_some() {
         let ns = each(nanoseconds, count);
         println!(rt; "{name} count {count} checksum {sum:016X} ns {ns}")?
     } else {
@@ -67,15 +67,16 @@ fn measure<T, Call: FnMut(&T) -> u64>(
 }
 
 // The calls on labels.
-fn measure_labels(rt: &HostRuntime, timed: bool, count: usize) -> anyhow::Result<()> {
+fn measure_labels(rt: &HostRuntime, asked: Option<usize>) -> anyhow::Result<()> {
+    let count = asked.unwrap_or(UNASKED);
     let plan = PositionPlan::plan4();
     let words = inputs(rt, &mut SplitMix::new(), count, |random| random.number())?;
-    measure(rt, "read", timed, &words, |word| read_sum(&plan, *word))?;
+    measure(rt, "read", asked, &words, |word| read_sum(&plan, *word))?;
     let openings = inputs(rt, &mut SplitMix::new(), count, Opening::random)?;
     measure(
         rt,
         "between",
-        timed,
+        asked,
         &openings,
         |opening| between_sum(&plan, opening),
     )
@@ -85,19 +86,20 @@ fn measure_labels(rt: &HostRuntime, timed: bool, count: usize) -> anyhow::Result
 fn measure_shelf<S: Keeping + Drop>(
     rt: &HostRuntime,
     names: [&str; 3],
-    timed: bool,
+    asked: Option<usize>,
     labels: &[Word],
     questions: &[Word],
     mut shelf: S,
 ) -> anyhow::Result<()> {
     let [put, find, rank] = names;
-    measure(rt, put, timed, labels, |label| put_sum(&mut shelf, *label))?;
-    measure(rt, find, timed, questions, |label| find_sum(&shelf, *label))?;
-    measure(rt, rank, timed, questions, |label| rank_sum(&shelf, *label))
+    measure(rt, put, asked, labels, |label| put_sum(&mut shelf, *label))?;
+    measure(rt, find, asked, questions, |label| find_sum(&shelf, *label))?;
+    measure(rt, rank, asked, questions, |label| rank_sum(&shelf, *label))
 }
 
 // The calls on shelves, the same on the ordered table and on the chain.
-fn measure_shelves(rt: &HostRuntime, timed: bool, count: usize) -> anyhow::Result<()> {
+fn measure_shelves(rt: &HostRuntime, asked: Option<usize>) -> anyhow::Result<()> {
+    let count = asked.unwrap_or(UNASKED);
     let mut random = SplitMix::new();
     let labels = inputs(rt, &mut random, MOST_ROWS, |random| random.number())?;
     let questions = inputs(rt, &mut random, count, |random| question(&labels, random))?;
@@ -105,7 +107,7 @@ fn measure_shelves(rt: &HostRuntime, timed: bool, count: usize) -> anyhow::Resul
     measure_shelf(
         rt,
         ["table put", "table find", "table rank"],
-        timed,
+        asked,
         &labels,
         &questions,
         OrderedTable::new(&mut rows),
@@ -114,7 +116,7 @@ fn measure_shelves(rt: &HostRuntime, timed: bool, count: usize) -> anyhow::Resul
     measure_shelf(
         rt,
         ["chain put", "chain find", "chain rank"],
-        timed,
+        asked,
         &labels,
         &questions,
         Chain::new(&mut links),
@@ -126,10 +128,8 @@ fn run(rt: &HostRuntime) -> anyhow::Result<()> {
         .nth(1)
         .map(|count| count.as_str().parse::<usize>())
         .transpose()?;
-    let timed = asked.is_some();
-    let count = asked.unwrap_or(UNASKED);
-    measure_labels(rt, timed, count)?;
-    measure_shelves(rt, timed, count)
+    measure_labels(rt, asked)?;
+    measure_shelves(rt, asked)
 }
 
 fn main(rt: HostRuntime) -> anyhow::Result<()> {
