@@ -4,6 +4,7 @@
 //! answers of the two can be held against each other. It also makes the stored scripts of labels. See README.md.
 
 mod bench;
+mod factory;
 mod labels;
 mod make;
 mod random;

@@ -17,6 +17,8 @@ pub enum Command {
     Relate(u64, u64),
     /// The label for a new child between two bounds.
     Between { parent: u64, lower: Option<u64>, upper: Option<u64> },
+    /// The rows of the factory's sheet.
+    Factory,
 }
 
 /// Why a line could not be read.
@@ -75,6 +77,7 @@ pub fn parse(line: &[u8]) -> Result<Option<Command>, LineError> {
         b"ask" => Command::Ask(words.label_word()?),
         b"relate" => Command::Relate(words.label_word()?, words.label_word()?),
         b"between" => Command::Between { parent: words.label_word()?, lower: words.bound()?, upper: words.bound()? },
+        b"factory" => Command::Factory,
         _ => return Err(LineError::UnknownCommand),
     };
     words.end()?;

@@ -6,6 +6,7 @@
 //! words compare as numbers), so that it also shows that the lists of the theory mean the same.
 
 use crate::bench;
+use crate::factory;
 use crate::labels::{Bits, Label, Plan, PlanKind, Relation, Scheme};
 use crate::random::SplitMix;
 use crate::session::answers;
@@ -69,6 +70,7 @@ pub fn selftest() -> Result<String, String> {
     }
     report.push_str(&format!("known answers: {} scripts\n", KNOWN.len()));
     bench_parents()?;
+    factory::check()?;
     for (kind, widths) in PLANS {
         let plan = Plan::new(kind, widths).map_err(|refusal| refusal.to_string())?;
         let exhaustive = Search::new(Scheme::new(plan.clone(), 7)).check(Bounds::All)?;

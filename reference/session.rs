@@ -1,5 +1,6 @@
 //! Carrying a script out: one answer for each line that has a command.
 
+use crate::factory;
 use crate::labels::{Plan, Scheme};
 use crate::refusal::Refusal;
 use crate::script::{self, Command};
@@ -46,6 +47,7 @@ impl Session {
                 let (word, label) = self.scheme.label_between(parent, lower, upper)?;
                 Ok(format!("label {} {label}", hexadecimal(word)))
             }
+            Command::Factory => Ok(factory::rows()),
         }
     }
 }
@@ -55,7 +57,7 @@ pub fn hexadecimal(word: u64) -> String {
     format!("{word:016X}")
 }
 
-/// All answers to a script, each on its line.
+/// All answers to a script, one after the other, and a newline behind each.
 pub fn answers(script: &[u8]) -> String {
     let mut session = Session::new();
     let mut text = String::new();

@@ -13,11 +13,11 @@ use Rattle.label.specs.declared.spelling.Spelling.{Spelling}
 use Rattle.gap.specs.Between.{Betweens}
 use Rattle.kushrebat.specs.Grammar.{Parses}
 use Rattle.kushrebat.specs.declared.answer.Answer.{Answer}
-use Rattle.kushrebat.specs.declared.answer.Answer.TheVariants.{Done, Read, Stands, Found, Refused, Unreadable}
+use Rattle.kushrebat.specs.declared.answer.Answer.TheVariants.{Done, Read, Stands, Found, FactoryRows, Refused, Unreadable}
 use Rattle.kushrebat.specs.declared.answer.Refusal.{Refusal}
 use Rattle.kushrebat.specs.declared.answer.Refusal.TheVariants as refusal
 use Rattle.kushrebat.specs.declared.command.Command.{Command}
-use Rattle.kushrebat.specs.declared.command.Command.TheVariants.{Plan, Ask, Relate, Between}
+use Rattle.kushrebat.specs.declared.command.Command.TheVariants.{Plan, Ask, Relate, Between, Factory}
 use Rattle.kushrebat.specs.declared.command.PlanKind.{PlanKind}
 use Rattle.kushrebat.specs.declared.command.PlanKind.TheVariants as kind
 use Rattle.kushrebat.specs.declared.script.fault.LineFault.{LineFault}
@@ -62,6 +62,7 @@ Carries before (Plan kind widths) r after = Chooses before kind (vec_items width
 Carries before (Ask x) r after = Asks before.plan x r × (after ≡ before)
 Carries before (Relate x y) r after = Tells before.plan x y r × (after ≡ before)
 Carries before (Between parent bounds) r after = Finds before.plan parent bounds.lower bounds.upper r × (after ≡ before)
+Carries before Factory r after = (r ≡ Ok FactoryRows) × (after ≡ before)
 
 -- what a refusal or an answer is printed as
 abbrev pub answer_of : Result Answer Refusal → Answer

@@ -3,7 +3,7 @@ use Rattle.std.specs.Prelude.{◌≡◌, ℕ, min, ◌⊎◌, List, [], ◌∷�
 use Rattle.kushrebat.specs.Lines.{words_of, until, comment}
 use Rattle.kushrebat.specs.Numerals.{Number, LabelWord, decimal, hexadecimal}
 use Rattle.kushrebat.specs.declared.command.Command.{Command}
-use Rattle.kushrebat.specs.declared.command.Command.TheVariants.{Plan, Ask, Relate, Between}
+use Rattle.kushrebat.specs.declared.command.Command.TheVariants.{Plan, Ask, Relate, Between, Factory}
 use Rattle.kushrebat.specs.declared.command.Name.{Name}
 use Rattle.kushrebat.specs.declared.command.Name.TheVariants as name
 use Rattle.kushrebat.specs.declared.command.PlanKind.{PlanKind}
@@ -59,6 +59,7 @@ text_of name.Plan = codes "plan"
 text_of name.Ask = codes "ask"
 text_of name.Relate = codes "relate"
 text_of name.Between = codes "between"
+text_of name.Factory = codes "factory"
 
 -- reading a word as the name of a command
 abbrev pub ReadsName : List ℕ → Result Name LineFault → Type 0
@@ -70,6 +71,7 @@ name_of (Plan kind widths) = name.Plan
 name_of (Ask x) = name.Ask
 name_of (Relate x y) = name.Relate
 name_of (Between parent bounds) = name.Between
+name_of Factory = name.Factory
 
 -- the words behind a command's name
 abbrev pub SpellsRest : List (List ℕ) → Command → Type 0
@@ -78,6 +80,7 @@ SpellsRest ws (Ask x) = (a : List ℕ) × (ws ≡ a ∷ []) × SpellsWord a x
 SpellsRest ws (Relate x y) = (a b : List ℕ) × (ws ≡ a ∷ b ∷ []) × SpellsWord a x × SpellsWord b y
 SpellsRest ws (Between parent bounds) =
     (a b c : List ℕ) × (ws ≡ a ∷ b ∷ c ∷ []) × SpellsWord a parent × SpellsBound b bounds.lower × SpellsBound c bounds.upper
+SpellsRest ws Factory = ws ≡ []
 
 -- the words behind a name spell this command of that name
 abbrev pub SpellsBehind : Name → List (List ℕ) → Command → Type 0
@@ -122,6 +125,7 @@ MisreadBehind name.Plan ws fault = MisreadPlan ws fault
 MisreadBehind name.Ask ws fault = Misread (a_word ∷ []) ws fault
 MisreadBehind name.Relate ws fault = Misread (a_word ∷ a_word ∷ []) ws fault
 MisreadBehind name.Between ws fault = Misread (a_word ∷ a_bound ∷ a_bound ∷ []) ws fault
+MisreadBehind name.Factory ws fault = Misread [] ws fault
 
 abbrev pub MisreadLine : List (List ℕ) → LineFault → Type 0
 MisreadLine [] fault = ⊥

@@ -3,9 +3,12 @@ ghost use Rattle.std.specs.Prelude.{◌≡◌, Some};
 ghost use Rattle.kushrebat.specs.Refusals.{number_of, name_of, written};
 ghost use Rattle.kushrebat.specs.declared.answer.Refusal.TheVariants as refusals;
 
+use crate::rows::Listing;
 use crate::script::fault::LineFault;
+use card::firing::FiringCard;
+use factory::FactoryShelf;
 use label::{LabelFault, Relation, Spelling, Word, WordReading};
-use plan::PlanFault;
+use plan::{PlanFault, PositionPlan};
 use std::fmt;
 
 // Why a call is turned down.
@@ -83,6 +86,8 @@ pub enum Answer {
     Stands(Relation),
     // A label that was looked for: its word and its text.
     Found(Word, Spelling),
+    // The rows of the factory's sheet.
+    FactoryRows,
     // The call is turned down.
     Refused(Refusal),
     // The line cannot be read.
@@ -104,6 +109,11 @@ impl fmt::Display for Answer {
             }
             Answer::Stands(relation) => write!(f, "{relation}"),
             Answer::Found(word, text) => write!(f, "label {word:016X} {text}"),
+            Answer::FactoryRows => {
+                let shelf = FactoryShelf::new();
+                let plan = PositionPlan::plan4();
+                write!(f, "{}", Listing::<_, _, FiringCard>::of(&shelf, &plan))
+            }
             Answer::Refused(refusal) => write!(f, "no {refusal}"),
             Answer::Unreadable(fault) => write!(f, "error {fault}"),
         }

@@ -44,6 +44,8 @@ pub enum Command {
     Relate(Word, Word),
     // The label for a new child of a word, between bounds.
     Between(Word, Bounds),
+    // The rows of the factory's sheet.
+    Factory,
 }
 
 // The first word of a command.
@@ -53,6 +55,7 @@ pub enum Name {
     Ask,
     Relate,
     Between,
+    Factory,
 }
 
 impl<'a> TryFrom<&'a [u8]> for Name {
@@ -66,6 +69,7 @@ impl<'a> TryFrom<&'a [u8]> for Name {
             b"ask" => Ok(Name::Ask),
             b"relate" => Ok(Name::Relate),
             b"between" => Ok(Name::Between),
+            b"factory" => Ok(Name::Factory),
             _ => Err(LineFault::UnknownCommand),
         }
     }
@@ -163,6 +167,13 @@ fn between(mut words: Words) -> Result<Command, LineFault>
     Ok(Command::Between(parent, Bounds { lower, upper }))
 }
 
+fn factory(mut words: Words) -> Result<Command, LineFault>
+    ensures { MatchResult result (SpellsBehind Name.Factory (left words.entry)) (MisreadBehind Name.Factory (left words.entry)) }
+{
+    words.end()?;
+    Ok(Command::Factory)
+}
+
 // The command of this name with the words behind it.
 fn parse_behind(heap: Global, name: Name, words: Words) -> Result<Command, LineFault>
     ensures { MatchResult result (SpellsBehind name (left words.entry)) (MisreadBehind name (left words.entry)) }
@@ -172,6 +183,7 @@ fn parse_behind(heap: Global, name: Name, words: Words) -> Result<Command, LineF
         Name::Ask => ask(words),
         Name::Relate => relate(words),
         Name::Between => between(words),
+        Name::Factory => factory(words),
     }
 }
 

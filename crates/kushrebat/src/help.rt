@@ -13,6 +13,8 @@ ask WORD                  bits B level L parent WORD text TEXT, with parent none
 relate WORD WORD          same, above, below, before or after
 between WORD LOWER UPPER  label WORD TEXT: the label between for a child of the first WORD;
                           LOWER and UPPER are each a WORD or none
+factory                   rows N, then a line WORD STATE TEXT CARD for each row of the
+                          factory's sheet, indented by two spaces a level
 
 ok                where there is nothing to tell
 no NUMBER NAME    where a call is turned down, with bit B where a word is no label's

@@ -4,6 +4,7 @@
 mod answer;
 mod command;
 mod help;
+mod rows;
 mod script;
 mod session;
 

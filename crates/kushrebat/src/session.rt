@@ -75,6 +75,7 @@ impl Session {
             Command::Ask(word) => ask(&self.plan, word),
             Command::Relate(first, second) => relate(&self.plan, first, second),
             Command::Between(parent, bounds) => between(&self.plan, parent, bounds),
+            Command::Factory => Ok(Answer::FactoryRows),
         }
     }
 
