@@ -32,7 +32,7 @@ impl<'a, S: Reading, P: WidthPlan, C: Card + fmt::Display> Listing<'a, S, P, C> 
         for _ in 0..reading.level {
             f.write_str("  ")?;
         }
-        write!(f, "{:016X} {} {text}", row.label, state_name(row.state))?;
+        write!(f, "{:016X} {} {text}", row.label, row.state)?;
         if row.state != State::Filled {
             return Ok(());
         }
@@ -40,14 +40,6 @@ impl<'a, S: Reading, P: WidthPlan, C: Card + fmt::Display> Listing<'a, S, P, C> 
             Ok(card) => write!(f, " {card}"),
             Err(_) => write!(f, " {:016X}", row.card),
         }
-    }
-}
-
-fn state_name(state: State) -> &'static str {
-    match state {
-        State::Opened => "opened",
-        State::Filled => "filled",
-        State::Struck => "struck",
     }
 }
 

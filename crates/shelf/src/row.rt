@@ -1,8 +1,10 @@
 // Rows: what a shelf is a list of.
-ghost use Rattle.std.specs.Prelude.{◌≡◌};
+ghost use Rattle.std.specs.Prelude.{◌≡◌, Some};
 ghost use Rattle.shelf.specs.Rows.{restated};
+ghost use Rattle.shelf.specs.States.{text_of};
 
 use label::Word;
+use std::fmt;
 
 // How it stands with a place.
 #[derive(Clone, Copy, PartialEq, Eq, Debug)]
@@ -13,6 +15,19 @@ pub enum State {
     Filled,
     // The place is out of use. Its row stays, so that its label is not given a second time.
     Struck,
+}
+
+// Shown as one word.
+impl fmt::Display for State {
+    ghost output = { λ state. Some (text_of state) };
+
+    fn fmt<W: fmt::Write>(&self, f: &mut fmt::Formatter<W>) -> fmt::Result {
+        f.write_str(match self {
+            State::Opened => "opened",
+            State::Filled => "filled",
+            State::Struck => "struck",
+        })
+    }
 }
 
 // One place: its label's word, by which rows are ordered and found, how it stands with it, and the word of its card, 0 where it has none.
