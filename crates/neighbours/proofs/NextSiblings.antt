@@ -61,7 +61,7 @@ module _ (L : Labels) (rows : List Row) (up : Rising rows) (a p : ℕ) where
   -- ## The four places
 
   pub first_under : (S : Sound L) (start : ℕ) → start ≡ rank_of rows p → (o : Option ℕ) → FirstChild L rows p start o
-      → Neighbours L rows FirstUnder a p (record { lower = None; upper = o })
+      → Neighbours L rows FirstUnder a p (None, o)
   first_under S start is o first = (
     λ c (k, h). h,
     upper_from FirstUnder start
@@ -71,7 +71,7 @@ module _ (L : Labels) (rows : List Row) (up : Rising rows) (a p : ℕ) where
   )
 
   pub last_under : (bound end : ℕ) → ((c : ℕ) → L.parent c ≡ Some p → c < bound) → end ≡ rank_of rows bound → (o : Option ℕ) → LastChild L rows p end o
-      → Neighbours L rows LastUnder a p (record { lower = o; upper = None })
+      → Neighbours L rows LastUnder a p (o, None)
   last_under bound end below is o last = (
     lower_from LastUnder end
         (λ j (inside, par) h.
@@ -80,7 +80,7 @@ module _ (L : Labels) (rows : List Row) (up : Rising rows) (a p : ℕ) where
     λ c (k, h). h,
   )
 
-  pub before : (at : ℕ) → at ≡ rank_of rows a → (o q : Option ℕ) → LastChild L rows p at o → FirstChild L rows p at q → Neighbours L rows Before a p (record { lower = o; upper = q })
+  pub before : (at : ℕ) → at ≡ rank_of rows a → (o q : Option ℕ) → LastChild L rows p at o → FirstChild L rows p at q → Neighbours L rows Before a p (o, q)
   before at is o q last first = (
     lower_from Before at
         (λ j (inside, par) low. ⊎_elim (λ less. less) (λ more. absurd (omega (arith, rank_above rows a up j (omega (arith, is)) inside))) (cases_lt j at))
@@ -90,7 +90,7 @@ module _ (L : Labels) (rows : List Row) (up : Rising rows) (a p : ℕ) where
         (λ j k more. rank_above rows a up j (omega (arith, is)) k.0) q first,
   )
 
-  pub after : (at : ℕ) → Past rows a at → (o q : Option ℕ) → LastChild L rows p at o → FirstChild L rows p at q → Neighbours L rows After a p (record { lower = o; upper = q })
+  pub after : (at : ℕ) → Past rows a at → (o q : Option ℕ) → LastChild L rows p at o → FirstChild L rows p at q → Neighbours L rows After a p (o, q)
   after at past o q last first = (
     lower_from After at
         (λ j (inside, par) low. ⊎_elim (λ less. less) (λ more. absurd (omega (arith, past.high j more inside))) (cases_lt j at))

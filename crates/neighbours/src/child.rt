@@ -5,7 +5,6 @@ ghost use Rattle.neighbours.specs.Planned.{labels, rows};
 
 use crate::planned::PlannedShelf;
 use crate::words::parent_of;
-use gap::Bounds;
 use label::Word;
 use plan::WidthPlan;
 use shelf::{Reading, Rows};
@@ -34,14 +33,19 @@ impl<'a, P: WidthPlan, S: Reading> PlannedShelf<'a, P, S> {
     }
 
     // The last child of `parent` before a row, and the first from it on.
-    pub(crate) fn children_around(&self, parent: Word, end: Word, at: usize) -> Bounds
+    pub(crate) fn children_around(
+        &self,
+        parent: Word,
+        end: Word,
+        at: usize,
+    ) -> (Option<Word>, Option<Word>)
         requires { ChildrenEnd (labels P.WidthPlan self.now) parent (Some end) }
-        ensures lower { LastChild (labels P.WidthPlan self.now) (rows S.Reading self.now) parent at result.lower }
-        ensures upper { FirstChild (labels P.WidthPlan self.now) (rows S.Reading self.now) parent at result.upper }
+        ensures lower { LastChild (labels P.WidthPlan self.now) (rows S.Reading self.now) parent at result.0 }
+        ensures upper { FirstChild (labels P.WidthPlan self.now) (rows S.Reading self.now) parent at result.1 }
     {
-        Bounds {
-            lower: self.last_child(parent, at),
-            upper: self.first_child(parent, end, at),
-        }
+        (
+            self.last_child(parent, at),
+            self.first_child(parent, end, at),
+        )
     }
 }

@@ -6,7 +6,6 @@ use crate::planned::PlannedShelf;
 use crate::rank::rank_past;
 use crate::site::Site;
 use crate::words::led_up_to;
-use gap::Bounds;
 use label::Word;
 use laws::Where;
 use plan::WidthPlan;
@@ -15,24 +14,19 @@ use shelf::Reading;
 impl<'a, P: WidthPlan, S: Reading> PlannedShelf<'a, P, S> {
     // The next lower and the next upper sibling of a new place under `parent`: of the parent's children with a row, in whatever state, the last that comes to stand before it
     // and the first behind it. A word that is no label, or has no room below it, has no children.
-    pub fn neighbours(&self, site: Site, parent: Word) -> Bounds
+    // Kept: a pair and no `Bounds`, since the rules of the project name a pair for what this search answers.
+    pub fn neighbours(&self, site: Site, parent: Word) -> (Option<Word>, Option<Word>)
         ensures { Neighbours (labels P.WidthPlan self.now) (rows S.Reading self.now) site.place site.label parent result }
     {
         let Some(end) = led_up_to(self.plan, parent) else {
-            return Bounds::default();
+            return (None, None);
         };
         match site.place {
             Where::FirstUnder => {
                 let start = self.shelf.rank(parent);
-                Bounds {
-                    lower: None,
-                    upper: self.first_child(parent, end, start),
-                }
+                (None, self.first_child(parent, end, start))
             }
-            Where::LastUnder => Bounds {
-                lower: self.last_child(parent, self.shelf.rank(end)),
-                upper: None,
-            },
+            Where::LastUnder => (self.last_child(parent, self.shelf.rank(end)), None),
             Where::Before => self.children_around(parent, end, self.shelf.rank(site.label)),
             Where::After => self.children_around(parent, end, rank_past(self.shelf, site.label)),
         }

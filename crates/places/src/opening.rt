@@ -11,7 +11,7 @@ ghost use Rattle.places.specs.Checked.{Checked};
 use crate::fault::SheetFault;
 use crate::head::head_label;
 use crate::rows::{is_filled, known_row};
-use gap::between;
+use gap::{Bounds, between};
 use label::Word;
 use neighbours::{PlannedShelf, Site};
 use plan::WidthPlan;
@@ -49,9 +49,9 @@ pub fn new_label<P: WidthPlan, S: Reading>(
     ensures { Checked (place_checks (labels P.WidthPlan planned.now) (rows S.Reading planned.now) site.label site.place) (λ (x : ℕ). LabelFor (labels P.WidthPlan planned.now) (rows S.Reading planned.now) site.place site.label (Some x)) result }
 {
     let parent = filled_parent(planned, site)?;
-    let bounds = planned.neighbours(site, parent);
+    let (lower, upper) = planned.neighbours(site, parent);
     // The parent's word is a label's, so it can be read.
-    let Ok(choice) = between(planned.plan, parent, bounds) else {
+    let Ok(choice) = between(planned.plan, parent, Bounds { lower, upper }) else {
         unreachable()
     };
     choice.ok_or(SheetFault::NoPlace)

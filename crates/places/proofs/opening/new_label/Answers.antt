@@ -22,5 +22,5 @@ returns g c =
     let S = plan_sound (g.P.WidthPlan.width plan) (g.met.P.WidthPlan.low plan) (g.met.P.WidthPlan.high plan) in
     let parent = c.in_ok-parent.ensures in
     subst (Checked (place_checks L rs c.args.site.label c.args.site.place) (λ (x : ℕ). LabelFor L rs c.args.site.place c.args.site.label (Some x))) (sym c.ok_or.ensures.value)
-    (label_found L S rs c.args.site.label c.args.site.place parent.0 c.in_ok-parent.parent parent.1 c.neighbours-bounds.result.lower c.neighbours-bounds.result.upper c.neighbours-bounds.ensures
+    (label_found L S rs c.args.site.label c.args.site.place parent.0 c.in_ok-parent.parent parent.1 c.neighbours-lower.result.0 c.neighbours-lower.result.1 c.neighbours-lower.ensures
     c.in-Ok.choice c.in-Ok.ensures)

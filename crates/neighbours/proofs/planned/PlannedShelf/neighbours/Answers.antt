@@ -12,14 +12,14 @@ returns-in-FirstUnder g c =
     let L = labels g.P.WidthPlan c.args.self.now in
     let rs = rows g.S.Reading c.args.self.now in
     let S = plan_sound (g.P.WidthPlan.width plan) (g.met.P.WidthPlan.low plan) (g.met.P.WidthPlan.high plan) in
-    subst (λ (x : Where). Neighbours L rs x c.args.site.label c.args.parent (record { lower = None; upper = c.first_child.result })) (sym c.in-FirstUnder.is)
+    subst (λ (x : Where). Neighbours L rs x c.args.site.label c.args.parent (None, c.first_child.result)) (sym c.in-FirstUnder.is)
     (first_under L rs (g.met.S.Reading.lawful c.args.self.now.shelf.now).rising c.args.site.label c.args.parent S c.rank-start.result c.rank-start.ensures c.first_child.result c.first_child.ensures)
 
 pub returns-in-LastUnder : goal.returns-in-LastUnder
 returns-in-LastUnder g c =
     let L = labels g.P.WidthPlan c.args.self.now in
     let rs = rows g.S.Reading c.args.self.now in
-    subst (λ (x : Where). Neighbours L rs x c.args.site.label c.args.parent (record { lower = c.last_child.result; upper = None })) (sym c.in-LastUnder.is)
+    subst (λ (x : Where). Neighbours L rs x c.args.site.label c.args.parent (c.last_child.result, None)) (sym c.in-LastUnder.is)
     (last_under L rs (g.met.S.Reading.lawful c.args.self.now.shelf.now).rising c.args.site.label c.args.parent c.in-Some.end c.rank.result c.in-Some.ensures.children c.rank.ensures
     c.last_child.result c.last_child.ensures)
 
