@@ -66,13 +66,13 @@ fn measure<T, Call: FnMut(&T) -> u64>(
     Ok(())
 }
 
-// The calls on labels.
+// The calls on labels. Their inputs are made before the first line is printed, so that where these find no memory no line is.
 fn measure_labels(rt: &HostRuntime, asked: Option<usize>) -> anyhow::Result<()> {
     let count = asked.unwrap_or(UNASKED);
     let plan = PositionPlan::plan4();
     let words = inputs(rt, &mut SplitMix::new(), count, |random| random.number())?;
-    measure(rt, "read", asked, &words, |word| read_sum(&plan, *word))?;
     let openings = inputs(rt, &mut SplitMix::new(), count, Opening::random)?;
+    measure(rt, "read", asked, &words, |word| read_sum(&plan, *word))?;
     measure(
         rt,
         "between",

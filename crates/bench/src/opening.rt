@@ -15,11 +15,12 @@ const PARENTS: [Word; 8] = [
     0x1084_2000_0000_0000,
 ];
 
-// Below a parent, between two words.
+// Below a parent, between two words. Both are always there, so that they are kept as plain words: `Bounds` takes twice their memory, and as many openings are made as are asked for.
 #[derive(Clone, Copy)]
 pub struct Opening {
     pub parent: Word,
-    pub bounds: Bounds,
+    lower: Word,
+    upper: Word,
 }
 
 impl Opening {
@@ -30,10 +31,16 @@ impl Opening {
         let upper = lower.saturating_add(random.number() >> 12);
         Opening {
             parent,
-            bounds: Bounds {
-                lower: Some(lower),
-                upper: Some(upper),
-            },
+            lower,
+            upper,
+        }
+    }
+
+    // What a label must lie between.
+    pub fn bounds(&self) -> Bounds {
+        Bounds {
+            lower: Some(self.lower),
+            upper: Some(self.upper),
         }
     }
 }

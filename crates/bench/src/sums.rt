@@ -18,7 +18,7 @@ pub fn read_sum(plan: &PositionPlan, word: Word) -> u64 {
 }
 
 pub fn between_sum(plan: &PositionPlan, opening: &Opening) -> u64 {
-    between(plan, opening.parent, opening.bounds)
+    between(plan, opening.parent, opening.bounds())
         .ok()
         .flatten()
         .unwrap_or(1)
