@@ -1,13 +1,15 @@
-use Rattle.std.proofs.Common.{◌≡◌, ℕ, ◌+◌, ◌-◌, None, Some, Option, sym, ap, ◌∙◌, arith}
+use Rattle.std.proofs.Common.{◌≡◌, ℕ, ◌+◌, ◌-◌, true, None, Some, Option, cond, sym, ap, ◌∙◌, arith}
 use Rattle.std.proofs.lemmas.Bool.{cond-true, cond-false}
 use Rattle.std.proofs.lemmas.Result.{err_from_is_err_and}
 use Rattle.std.specs.Option.{ok_or}
 use Rattle.label.specs.declared.fault.LabelFault.TheVariants.{Short}
 use Rattle.label.specs.declared.piece.Piece.{Piece}
-use Rattle.label.specs.Label.{word_bits}
+use Rattle.label.specs.Label.{word_bits, stands_at}
 use Rattle.label.proofs.Pieces.{behind_fits}
 use Rattle.label.proofs.Readings.{cut, gather_start, gather_missing, gather_zero, gather_ends, gather_more}
+use Rattle.label.proofs.reading.read_pieces.Given as given
 use Rattle.label.proofs.reading.read_pieces.Goals as goal
+use Rattle.label.proofs.reading.read_pieces.Goals.{After-bit-in-pieces, then-piece-2, else-piece-2, else-piece-via-then-piece+else-not-takes, else-piece-via-else-piece}
 
 pub pieces-init : goal.pieces-init
 pieces-init g c =
@@ -28,9 +30,13 @@ returns-then-not-takes g c =
     let is = gather_zero _ word_bits _ c.width-width.ensures.is c.pieces.invariant (sym c.in_ok-piece.ensures.ok_part ∙ c.piece.ensures) c.if-not-takes.ensures in
     cc (c.bit-then-not-takes.ensures)
 
+-- a subvalue that is not turned down may stand at its spot: it does not end its level, or it was asked
+stands : (g : given.Over) (c : After-bit-in-pieces g) → true ≡ stands_at c.pieces.cursor.spot.position c.in_ok-piece.piece.subvalue.value c.in_ok-piece.piece.subvalue.ends_level
+stands g c = elim c.else-piece.branch [ else-piece-via-then-piece+else-not-takes w ↦ w.if-not-takes.ensures | else-piece-via-else-piece w ↦ sym (cond-false _ _ _ w.if-piece.false) ]
+
 pub returns-in_default : goal.returns-in_default
 returns-in_default g c =
-    let is = gather_ends _ word_bits _ c.width-width.ensures.is c.pieces.invariant (sym c.in_ok-piece.ensures.ok_part ∙ c.piece.ensures) c.if-not-takes.ensures c.in_default.is in
+    let is = gather_ends _ word_bits _ c.width-width.ensures.is c.pieces.invariant (sym c.in_ok-piece.ensures.ok_part ∙ c.piece.ensures) (stands g c.before) c.in_default.is in
     cc (c.bit-in-pieces.ensures)
 
 pub behind-cursor-requires : goal.behind-cursor-requires
@@ -38,21 +44,17 @@ behind-cursor-requires g c =
     behind_fits c.pieces.cursor.small
     (sym c.in_ok-piece.ensures.ok_part ∙ c.piece.ensures) c.in-Some.is
 
-pub pieces-preserved-then-piece : goal.pieces-preserved-then-piece
-pieces-preserved-then-piece g c =
+pub pieces-preserved : goal.pieces-preserved
+pieces-preserved g c =
     let k : ℕ = c.width-width.result in
     let n : ℕ = c.pieces.cursor.spot.left in
     let at = sym c.in_ok-piece.ensures.ok_part ∙ c.piece.ensures in
     let fits = behind_fits c.pieces.cursor.small at c.in-Some.is in
     let behind : word_bits - (c.bit-in-pieces.result + k) ≡ n - k = omega (arith, fits.0, c.bit-in-pieces.ensures, c.pieces.cursor.spot.within) in
-    gather_more _ word_bits _ c.width-width.ensures.is c.pieces.invariant at c.if-not-takes.ensures c.in-Some.is fits.0
-    c.behind-cursor.ensures.left c.behind-cursor.ensures.rest c.behind-cursor.ensures.level c.behind-cursor.ensures.position
-    (ap Some (c.padded.ensures ∙ ap (cut c.args.word) behind) ∙ sym (cond-true _ _ _ c.if-piece.true))
-
-pub pieces-preserved : goal.pieces-preserved
-pieces-preserved g c =
-    let at = sym c.in_ok-piece.ensures.ok_part ∙ c.piece.ensures in
-    let fits = behind_fits c.pieces.cursor.small at c.in-Some.is in
-    gather_more _ word_bits _ c.width-width.ensures.is c.pieces.invariant at c.if-not-takes.ensures c.in-Some.is fits.0
-    c.behind-cursor.ensures.left c.behind-cursor.ensures.rest c.behind-cursor.ensures.level c.behind-cursor.ensures.position
-    (sym (cond-false _ _ _ c.if-piece.false))
+    let above : c.if-piece-2.parent ≡ cond c.in_ok-piece.piece.subvalue.ends_level (Some (cut c.args.word (n - k))) c.pieces.parent =
+    elim c.if-piece-2.branch [
+      | then-piece-2 w ↦ w.parent-is ∙ ap Some (w.padded.ensures ∙ ap (cut c.args.word) behind) ∙ sym (cond-true _ _ _ w.if-piece-2.true)
+      | else-piece-2 w ↦ w.parent-is ∙ sym (cond-false _ _ _ w.if-piece-2.false)
+    ] in
+    gather_more _ word_bits _ c.width-width.ensures.is c.pieces.invariant at (stands g c.before.before.before) c.in-Some.is fits.0
+    c.behind-cursor.ensures.left c.behind-cursor.ensures.rest c.behind-cursor.ensures.level c.behind-cursor.ensures.position above
