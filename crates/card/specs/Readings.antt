@@ -1,5 +1,5 @@
 -- When the reading of a word answers a card.
-use Rattle.std.specs.Prelude.{◌≡◌, ℕ, Some, None, Option, refl}
+use Rattle.std.specs.Prelude.{◌≡◌, ℕ, is_some, is_ok, Some, None, Decides, Option, refl}
 use Rattle.std.proofs.Common.{subst, arith}
 use Rattle.card.specs.Reading.{Reads}
 use Rattle.card.specs.declared.fault.CardFault.TheVariants.{NoCard}
@@ -20,3 +20,8 @@ reads_word code decode Lawful round own lawful_code card_with w = reads_when cod
     (λ c e. subst Lawful (own w c e) (lawful_code c))
     (own w)
     (λ l. let p = card_with w l in (p.0, subst (λ x. decode x ≡ Some p.0) p.1 (round p.0)))
+
+-- a card is there exactly when it is answered
+pub some_when : {C P : Type 0} (o : Option C) → Decides (is_ok (ok_or o NoCard)) P → Decides (is_some o) P
+some_when (Some c) d = d
+some_when None d = d

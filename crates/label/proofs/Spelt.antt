@@ -133,11 +133,11 @@ module _ (w : ℕ → ℕ → ℕ) where
           omega (arith, width, ap (bits w l i) it, onward_bits l i first.ends_level first.value d),
         )
 
-    pub no_room : eqb (length further) 0 ≡ false → n ≡ k → WritesFrom w n l i xs None
-    no_room some full c is f b =
+    pub no_room : eqb (length further) 0 ≡ false → (1 ≤ n - k → ⊥) → WritesFrom w n l i xs None
+    no_room some none c is f b =
         let (r, rs, more) = begun further some in
         let (d, sp, fit, few) = further_label r rs more c is f b in
-        omega arith
+        none (omega arith)
 
     -- ## What is behind the separator: m bits, from level l' and position i' on
     module _ {m l' i' : ℕ} (more : k < n) (less : m ≡ n - k - 1) (deep : l' ≡ level_after first.ends_level l) (along : i' ≡ position_after first.ends_level i) where

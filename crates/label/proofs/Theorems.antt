@@ -213,13 +213,13 @@ module _ (w : ℕ → ℕ → ℕ) (N : ℕ) where
 
   -- the same of a word that was read
   module _ (x : ℕ) (reading : WordReading) (read : Reads w N x (Ok reading)) where
-    ends_led : (bound : ℕ) → bound ≡ x + 2 ^ (N - 1 - reading.bits) → EndsLed w N x (Ok (Some bound))
+    pub ends_led : (bound : ℕ) → bound ≡ x + 2 ^ (N - 1 - reading.bits) → EndsLed w N x (Ok (Some bound))
     ends_led bound is =
         let (c, of, it) = read in
         let e : N - 1 - reading.bits ≡ N - bits w 1 0 c - 1 = omega (arith, ap (λ (q : WordReading). q.bits) it) in
         (c, of, led_to c bound of.0 (is ∙ omega (arith, of.1, ap (λ (j : ℕ). 2 ^ j) e)))
 
-    ends_none : N ≤ reading.bits → EndsLed w N x (Ok None)
+    pub ends_none : N ≤ reading.bits → EndsLed w N x (Ok None)
     ends_none all = let (c, of, it) = read in (c, of, led_none c (omega (arith, all, ap (λ (q : WordReading). q.bits) it)))
 
     -- the end that Made says of the number of bits behind the separator, if there are any

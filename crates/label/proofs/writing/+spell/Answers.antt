@@ -22,7 +22,7 @@ returns-then-is_empty g t c =
 
 pub returns-then-spot-width : goal.returns-then-spot-width
 returns-then-spot-width g t c =
-    no_room _ _ _ _ c.width-width.ensures.is c.in_ok-first.ensures.cases.0 (sym c.if-is_empty.ensures) c.if-spot-width.true
+    no_room _ _ _ _ c.width-width.ensures.is c.in_ok-first.ensures.cases.0 (sym c.if-is_empty.ensures) (λ some. omega (arith, c.if-spot-width.true))
 
 pub returns-in_err-rest : goal.returns-in_err-rest
 returns-in_err-rest g t c =
