@@ -32,6 +32,7 @@ impl<S: Reading> Reading for &mut S {
     }
 }
 
+// Whoever writes a keeping shelf: inside its own `put` and `set`, `self.capacity()` would mean this impl, which stands on the one that is being written. Write `(*self).capacity()`.
 impl<S: Keeping> Keeping for &mut S {
     ghost capacity = { λ s. S.Keeping.capacity s.now };
 
@@ -39,6 +40,10 @@ impl<S: Keeping> Keeping for &mut S {
 
     fn capacity(&self) -> usize {
         (**self).capacity()
+    }
+
+    fn is_full(&self) -> bool {
+        (**self).is_full()
     }
 
     fn put(&mut self, row: Row) -> Result<(), ShelfFault> {
