@@ -29,7 +29,7 @@ fn read_pieces<P: WidthPlan>(plan: &P, word: Word) -> Result<WordReading, LabelF
         let width = spot.width(plan);
         let piece = cursor.piece(width).ok_or(LabelFault::Short(spot.bit()))?;
         // Only a subvalue that ends its level is asked, and the parent is set before the cursor moves on: so the compiler makes one branch for a piece.
-        // In another order it computes both ways of each piece and then chooses, which takes a third more instructions.
+        // In another order it computes both ways of each piece and then chooses, which takes almost a fifth more instructions.
         if piece.subvalue.ends_level && !spot.takes(piece.subvalue) {
             return Err(LabelFault::Zero(spot.bit()));
         }
