@@ -13,7 +13,7 @@ use Rattle.shelf.proofs.Ranks.{cases_eq_lt, rank_le}
 use Rattle.chain.specs.declared.link.Link.{Link}
 use Rattle.chain.specs.Links.{link_of, blank_link, link_at, slot_at, walked}
 use Rattle.chain.specs.declared.chain.Chain.{Chain}
-use Rattle.chain.specs.Chains.{chain_rows, SlotBefore, ComesBehind}
+use Rattle.chain.specs.Chains.{SlotBefore, ComesBehind}
 use Rattle.chain.proofs.Walks.{length_walked, slot_suc, get_or_walked, slot_once}
 
 -- all slots of a walk of n steps are below n
@@ -86,6 +86,22 @@ unvisited ls h n i x away (suc j) p =
 -- .. as one in the first free slot
 away : (ls : List Link) (h n : ℕ) → Inside ls h n → (j : ℕ) → j < n → slot_at ls h j ≢ n
 away ls h n inside j p = let lt = inside j p in omega arith
+
+module _ (ls : List Link) (h n : ℕ) (x : Link) (inside : Inside ls h n) where
+  -- a link in the first free slot leaves the rows as they were
+  pub walked_free : walked (set ls n x) h n ≡ walked ls h n
+  walked_free =
+      let old = length_walked ls h n in
+      let new = length_walked (set ls n x) h n in
+      same_lists _ _ (omega arith) (λ j d p.
+      get_or_walked (set ls n x) h n j d (omega arith)
+      ∙ ap (λ s. (link_at (set ls n x) s).row) (unvisited ls h n n x (away ls h n inside) j (omega arith))
+      ∙ ap (λ l. l.row) (link_set_other ls n (slot_at ls h j) x (away ls h n inside j (omega arith)))
+      ∙ sym (get_or_walked ls h n j d (omega arith)))
+
+  -- with a link in the first free slot all slots of the walk stay below it
+  pub inside_free : Inside (set ls n x) h n
+  inside_free j p = let e = unvisited ls h n n x (away ls h n inside) j (omega arith) in let lt = inside j p in omega arith
 
 hooked_first : (ls : List Link) (h n : ℕ) (r : Row) → n < length ls → Inside ls h n → Hooked ls h (set ls n (link_of r h)) n n 0 r
 hooked_first ls h n r room inside = record {
@@ -171,12 +187,17 @@ module _ (ls : List Link) (h n k : ℕ) (r : Row) (room : n < length ls) (in_cha
   }
 
 -- the row behind which another comes is in use
-pub behind_inside : (c : Chain) (r : Row) (before : Option ℕ) (p : ℕ) → before ≡ Some p → ComesBehind c r.label before → p < c.len
-behind_inside c r before p e behind =
-    let at = subst (ComesBehind c r.label) e behind in
-    let le = rank_le (chain_rows c) r.label in
-    let lt = c.inside (rank_of (chain_rows c) r.label - 1) (omega (arith, at.0, c.long)) in
-    omega (arith, at.1)
+pub behind_inside : (ls : List Link) (h n : ℕ) (r : Row) → Inside ls h n → (p : ℕ) → SlotBefore ls h (rank_of (walked ls h n) r.label) (Some p) → p < n
+behind_inside ls h n r inside p e =
+    let le = rank_le (walked ls h n) r.label in
+    let len = length_walked ls h n in
+    let lt = inside (rank_of (walked ls h n) r.label - 1) (omega (arith, e.0)) in
+    omega (arith, e.1)
+
+-- .. so is that of a chain
+pub comes_inside : (c : Chain) (r : Row) (before : Option ℕ) (p : ℕ) → before ≡ Some p → ComesBehind c r.label before → p < c.len
+comes_inside c r before p e behind =
+    behind_inside c.links.now c.head c.len r c.inside p (subst (ComesBehind c r.label) e behind)
 
 -- what a row hooked in at its rank makes of the chain
 module _ (ls : List Link) (h n : ℕ) (r : Row) (room : n < length ls) (inside : Inside ls h n) where

@@ -1,5 +1,5 @@
 -- What a walk along links visits. Assumes nothing.
-use Rattle.std.proofs.Common.{◌≡◌, ℕ, zero, suc, ◌+◌, ◌-◌, ◌<◌, ◌≤◌, List, length, get_or, Some, Ok, Err, Option, sym, refl, ap, ◌∙◌, subst, ⊎_elim, add-one, arith}
+use Rattle.std.proofs.Common.{◌≡◌, ℕ, zero, suc, ◌+◌, ◌-◌, ◌<◌, ◌≤◌, List, length, get_or, Some, None, Ok, Err, Option, sym, refl, ap, ◌∙◌, subst, ⊎_elim, add-one, arith}
 use Rattle.std.proofs.lemmas.Bool.{cases_order}
 use Rattle.shelf.specs.declared.row.Row.{Row}
 use Rattle.shelf.specs.Rows.{blank, row_at, label_at, Rising, rank_of, Sought}
@@ -46,6 +46,15 @@ pub record Passed (ls : List Link) (h n l k slot : ℕ) (before : Option ℕ) : 
   pub here : slot ≡ slot_at ls h k
   pub behind : SlotBefore ls h k before
   pub below : (i : ℕ) → i < k → label_at (walked ls h n) i < l
+
+-- a walk that stands at the head has passed no row and has none in mind
+pub passed_none : (ls : List Link) (h n l : ℕ) → Passed ls h n l 0 h None
+passed_none ls h n l = record {
+  within = omega arith;
+  here = refl;
+  behind = refl;
+  below = λ i q. omega arith;
+}
 
 module _ (ls : List Link) (h n l k slot : ℕ) (before : Option ℕ) (p : Passed ls h n l k slot before) where
   -- the walk stands at the k-th row

@@ -1,5 +1,5 @@
 -- Reading the words of a line from left to right. Assumes nothing.
-use Rattle.std.proofs.Common.{◌≡◌, ℕ, zero, suc, ◌+◌, ◌<◌, List, [], ◌∷◌, ◌++◌, length, Some, None, Ok, Err, Option, Result, MatchResult, IfOk, IfErr, IsSomeAnd, ◌⊎◌, slice_get, sym, ap, ◌∙◌, subst, inl, inr, append_assoc, append-nil, arith}
+use Rattle.std.proofs.Common.{◌≡◌, ℕ, zero, suc, ◌+◌, ◌<◌, List, [], ◌∷◌, ◌++◌, length, Some, None, Ok, Err, Option, Result, MatchResult, IfOk, IfErr, IsSomeAnd, ◌⊎◌, slice_get, sym, refl, ap, ◌∙◌, subst, inl, inr, append_assoc, append-nil, arith}
 use Rattle.std.specs.Iterator.{Yields, Drains}
 use Rattle.std.specs.Iterator.Runs.{Run, SomeRun, EndsAtFirstErr, YieldsRun}
 use Rattle.std.specs.List.{FoldsTo}
@@ -17,6 +17,21 @@ later p ps ws ds rest fault e h m = subst (λ l. Misread (p ∷ ps) l fault) (sy
 pub readable : (ds : List ℕ) (b : Option ℕ) → SpellsBound ds b → Readable a_bound ds
 readable ds None e = inl e
 readable ds (Some x) h = inr h.0
+
+-- words that spell widths, and one that spells one width more, spell them all
+pub widths_more : (ds : List (List ℕ)) (ws all : List ℕ) (d : List ℕ) (w : ℕ) → all ≡ ws ++ (w ∷ []) → SpellsWidths ds ws → SpellsWidth d w → SpellsWidths (ds ++ (d ∷ [])) all
+widths_more [] [] all d w e h s = subst (SpellsWidths (d ∷ [])) (sym e) (s, tt)
+widths_more [] (v ∷ ws) all d w e h s = absurd h
+widths_more (c ∷ ds) [] all d w e h s = absurd h
+widths_more (c ∷ ds) (v ∷ ws) all d w e h s =
+    subst (SpellsWidths (c ∷ (ds ++ (d ∷ [])))) (sym e) (h.0, widths_more ds ws (ws ++ (w ∷ [])) d w refl h.1 s)
+
+-- what is misread behind words that spell widths is misread in all
+pub misread_later : (all ds rest : List (List ℕ)) (ws : List ℕ) (fault : LineFault) → all ≡ ds ++ rest → SpellsWidths ds ws → MisreadNumbers rest fault → MisreadNumbers all fault
+misread_later all [] rest ws fault e h m = subst (λ l. MisreadNumbers l fault) (sym e) m
+misread_later all (d ∷ ds) rest [] fault e h m = absurd h
+misread_later all (d ∷ ds) rest (w ∷ ws) fault e h m =
+    subst (λ l. MisreadNumbers l fault) (sym e) (inr (h.0.0, misread_later (ds ++ rest) ds rest ws fault refl h.1 m))
 
 -- what one word gives as a width
 abbrev pub Gives : List ℕ → Result ℕ LineFault → Type 0

@@ -1,3 +1,4 @@
+pub mod Children
 pub mod NextSiblings
 pub mod WordReads
 pub mod Belows

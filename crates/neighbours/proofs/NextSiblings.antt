@@ -60,6 +60,10 @@ module _ (L : Labels) (rows : List Row) (up : Rising rows) (a p : ℕ) where
 
   -- ## The four places
 
+  -- a parent without children
+  pub childless : ((c : ℕ) → L.parent c ≡ Some p → ⊥) → (w : Where) → Neighbours L rows w a p (None, None)
+  childless none w = (λ c ((at, par), low). none c par, λ c ((at, par), high). none c par)
+
   pub first_under : (S : Sound L) (start : ℕ) → start ≡ rank_of rows p → (o : Option ℕ) → FirstChild L rows p start o
       → Neighbours L rows FirstUnder a p (None, o)
   first_under S start is o first = (

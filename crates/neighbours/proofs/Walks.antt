@@ -16,10 +16,11 @@ use Rattle.shelf.specs.declared.row.Row.{Row}
 use Rattle.shelf.specs.Rows.{Rising, blank, label_at, row_at}
 use Rattle.shelf.specs.Stretch.{stretch}
 use Rattle.gap.specs.Labels.{Labels, Sound}
-use Rattle.neighbours.specs.Below.{InUse, LedEnd, Occupied}
+use Rattle.neighbours.specs.Below.{InUse, LedEnd, BelowAt, Occupied}
 use Rattle.neighbours.specs.Ranks.{Past}
-use Rattle.neighbours.specs.Children.{ChildrenEnd, FirstChild, LastChild}
-use Rattle.shelf.proofs.Ranks.{cases_eq_lt}
+use Rattle.neighbours.specs.Children.{ChildrenEnd, ChildAt, FirstChild, LastChild}
+use Rattle.neighbours.proofs.Children.{no_rows, no_child_below, no_child_past, no_child_both}
+use Rattle.neighbours.proofs.Belows.{none_up_to, none_past, none_at_all, found_below}
 
 -- what a closure makes of an optional value
 pub mapped : {A B : Type 0} (Made : A → B → Type 0) (f : A → B) → ((x : A) (y : B) → Made x y → y ≡ f x) → (o : Option A) (q : Option B)
@@ -48,10 +49,6 @@ passing test rows = take (prefix_len test rows) rows
 -- a row that is in use, with a lawful label
 abbrev pub IsUsed : Labels → Row → Type 0
 IsUsed L r = InUse r.state × T (L.lawful r.label)
-
--- labels rise with the index
-pub not_above : (rows : List Row) → Rising rows → (i j : ℕ) → i ≤ j → j < length rows → label_at rows i ≤ label_at rows j
-not_above rows up i j h inside = ⊎_elim (λ e. omega (arith, ap (label_at rows) e)) (λ less. omega (arith, up i j less inside)) (cases_eq_lt i j h)
 
 -- a stretch and its rows
 length-stretch : (rows : List Row) (a b : ℕ) → length (stretch rows a b) ≡ min (b - a) (length rows - a)
@@ -87,13 +84,13 @@ module _ (rows : List Row) (up : Rising rows) (start bound : ℕ) where
       let here = stretch_at rows start (length rows) k (omega (arith, within k h)) in
       omega (arith, ltb-true _ _ (prefix_len_passes low behind k blank h), ap (λ (r : Row). r.label) here)
 
-  -- the others are not below the bound
-  beyond : (j : ℕ) → start + m ≤ j → j < length rows → bound ≤ label_at rows j
-  beyond j h inside =
+  -- the next is not below the bound
+  beyond : start + m < length rows → bound ≤ label_at rows (start + m)
+  beyond inside =
       let more : m < length behind = omega (arith, length-stretch rows start (length rows)) in
       let stop = ltb-false _ _ (prefix_len_stops low behind blank more) in
       let here = stretch_at rows start (length rows) m (omega arith) in
-      omega (arith, stop, ap (λ (r : Row). r.label) here, not_above rows up (start + m) j h inside)
+      omega (arith, stop, ap (λ (r : Row). r.label) here)
 
   -- what is found among the rows that are looked at, by its index among all
   module _ (Wanted : Row → Type 0) where
@@ -115,10 +112,12 @@ module _ (L : Labels) (rows : List Row) (up : Rising rows) where
 
   pub first_walk : (p bound start : ℕ) → ChildrenEnd L p (Some bound) → (r : Option Row)
       → FirstOf (IsChild p) (passing (low rows up start bound) (behind rows up start bound)) r → FirstChild L rows p start (option_map (λ (x : Row). x.label) r)
-  first_walk p bound start below None none = λ j from inside (has, par).
-      ⊎_elim (λ less. none_before rows up start bound (IsChild p) _ (omega arith) none j from less par)
-      (λ more. omega (arith, beyond rows up start bound j (omega (arith, length-prefix_len (low rows up start bound) (behind rows up start bound))) inside, below (label_at rows j) par))
-      (cases_lt j (start + length (passing (low rows up start bound) (behind rows up start bound))))
+  first_walk p bound start below None none =
+      let next : ℕ = start + m rows up start bound in
+      no_child_both L rows p start next (length rows)
+      (λ j from less (has, par).
+      none_before rows up start bound (IsChild p) _ (omega arith) none j from (omega (arith, length-prefix_len (low rows up start bound) (behind rows up start bound))) par)
+      (⊎_elim (λ inside. no_child_past L rows p up bound next below inside (beyond rows up start bound inside)) (no_rows L rows p next (length rows)) (cases_lt next (length rows)))
   first_walk p bound start below (Some x) (wanted, i, inside, here, none) =
       let (has, is) = row_found rows up start bound (IsChild p) x i inside here in (
         start + i,
@@ -163,19 +162,21 @@ module _ (L : Labels) (rows : List Row) (up : Rising rows) where
         let same : n - 1 - (n - 1 - j) ≡ j = omega arith in
         none (n - 1 - j) blank (omega arith) (omega arith) (subst (IsChild p) (sym (seen_back (n - 1 - j) (omega arith) ∙ ap (row_at rows) same)) child)
 
-    -- the others are not above the parent
-    before : (j : ℕ) → j < n - b → label_at rows j ≤ p
-    before j h =
+    -- the next is not above the parent
+    before : b < n → label_at rows (n - 1 - b) ≤ p
+    before h =
         let more : b < length back = omega (arith, length-reverse (stretch rows 0 end), long) in
         let stop = ltb-false _ _ (prefix_len_stops high back blank more) in
-        omega (arith, stop, ap (λ (r : Row). r.label) (back_at b (omega arith)), not_above rows up j (n - 1 - b) (omega arith) (omega arith))
+        omega (arith, stop, ap (λ (r : Row). r.label) (back_at b h))
 
     pub last_walk : Sound L → (r : Option Row) → FirstOf (IsChild p) (passing high back) r → LastChild L rows p end (option_map (λ (x : Row). x.label) r)
-    last_walk S None none = λ j from less (has, par).
+    last_walk S None none =
         let all : length (passing high back) ≡ b = length-prefix_len high back in
-        ⊎_elim (λ low. omega (arith, before j low, S.leads_less p (label_at rows j) (S.parent_leads p (label_at rows j) par)))
-        (λ more. none_behind b (omega arith) (subst (λ k. AllWithin (λ y. ¬ (IsChild p y)) (passing high back) 0 k) all none) j more (omega arith) par)
-        (cases_lt j (n - b))
+        let seen : (j : ℕ) → n - b ≤ j → j < end → ChildAt L rows p j → ⊥ =
+        λ j from less (has, par). none_behind b (omega arith) (subst (λ k. AllWithin (λ y. ¬ (IsChild p y)) (passing high back) 0 k) all none) j from (omega arith) par in
+        ⊎_elim (λ h. no_child_both L rows p 0 (n - 1 - b + 1) end (no_child_below L rows p up S (n - 1 - b) (omega arith) (before h)) (λ j from. seen j (omega arith)))
+        (λ h j from. seen j (omega arith))
+        (cases_lt b n)
     last_walk S (Some x) (wanted, i, inside, here, none) =
         let less : i < b = omega (arith, length-prefix_len high back) in
         let is = sym (seen_back i less) ∙ here blank in (
@@ -194,16 +195,18 @@ pub below_walk : (L : Labels) (rows : List Row) (up : Rising rows) (x end k : �
 below_walk L rows up x end k ends past true (i, inside, here) =
     let less : i < m rows up k end = omega (arith, length-prefix_len (low rows up k end) (behind rows up k end)) in
     let (used, law) = subst (IsUsed L) (seen rows up k end i less) (here blank) in (
-      λ _. (k + i, (within rows up k end i less, (ends (label_at rows (k + i))).1 (law, past.high (k + i) (omega arith) (within rows up k end i less), seen_low rows up k end i less), used)),
+      λ _. found_below L rows x end ends (k + i) (within rows up k end i less) (past.high (k + i) (omega arith) (within rows up k end i less)) (seen_low rows up k end i less) law used,
       λ _. refl,
     )
 below_walk L rows up x end k ends past false none = (
   λ e. absurd (cc),
-  λ (j, (inside, led, used)).
-      let (law, more, less) = (ends (label_at rows j)).0 led in
-      absurd (⊎_elim (λ h. omega (arith, past.low j h))
-      (λ h. ⊎_elim (λ seen. none_before rows up k end (IsUsed L) _ (omega arith) none j h seen (used, law))
-      (λ far. omega (arith, beyond rows up k end j (omega (arith, length-prefix_len (low rows up k end) (behind rows up k end))) inside))
-      (cases_lt j (k + length (passing (low rows up k end) (behind rows up k end)))))
-      (cases_lt j k)),
+  λ occupied.
+      let next : ℕ = k + m rows up k end in
+      let rest : (j : ℕ) → j < next → BelowAt L rows x j → ⊥ =
+      λ j seen (inside, led, used).
+      ⊎_elim (λ h. none_up_to L rows x end ends k past j h (inside, led, used))
+      (λ h. none_before rows up k end (IsUsed L) _ (omega arith) none j h (omega (arith, length-prefix_len (low rows up k end) (behind rows up k end))) (used, ((ends (label_at rows j)).0 led).0))
+      (cases_lt j k) in
+      absurd (⊎_elim (λ inside. none_past L rows x end ends up next inside (beyond rows up k end inside) rest occupied) (λ all. none_at_all L rows x end ends next all rest occupied)
+      (cases_lt next (length rows))),
 )

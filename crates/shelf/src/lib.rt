@@ -8,6 +8,7 @@ mod reading;
 mod row;
 mod rows;
 mod scan;
+mod slice;
 mod table;
 
 pub use fault::ShelfFault;
@@ -16,4 +17,5 @@ pub use reading::{MOST_ROWS, Reading};
 pub use row::{Row, State};
 pub use rows::Rows;
 pub use scan::next_filled;
+pub use slice::seek_rows;
 pub use table::OrderedTable;

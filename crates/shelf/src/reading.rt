@@ -5,7 +5,6 @@ ghost use Rattle.shelf.specs.Rows.{LawfulRows, RowAt, Sought, rank_of, index_of}
 
 use crate::row::Row;
 use label::Word;
-use std::cmp::Ordering;
 
 // How many rows a shelf has at most.
 pub const MOST_ROWS: usize = 2048;
@@ -25,7 +24,7 @@ pub trait Reading {
         ensures { RowAt (rows self.now) index result };
 
     // Where a label stands: `Ok` with the index of its row, or `Err` with the index that its row would have.
-    // By halving, for a shelf that is quick to answer a row. A shelf that has its rows in a slice searches that.
+    // By halving, for a shelf that is quick to answer a row. A shelf that has its rows in a slice answers by `seek_rows`.
     fn seek(&self, label: Word) -> Result<usize, usize>
         ensures { Sought (rows self.now) label result }
     {
@@ -33,14 +32,17 @@ pub trait Reading {
         let mut low = 0;
         let mut high = self.count();
         while low < high {
-            let middle = low.midpoint(high);
+            let middle = low + (high - low) / 2;
             let Some(row) = self.row(middle) else {
                 unreachable()
             };
-            match row.label.cmp(&label) {
-                Ordering::Equal => return Ok(middle),
-                Ordering::Less => low = middle + 1,
-                Ordering::Greater => high = middle,
+            if row.label == label {
+                return Ok(middle);
+            }
+            if row.label < label {
+                low = middle + 1;
+            } else {
+                high = middle;
             }
         }
         Err(low)

@@ -5,7 +5,7 @@ ghost use Rattle.factory.specs.Factory.{factory_rows, factory_lawful};
 use super::FactoryShelf;
 use crate::programme::PROGRAMME;
 use label::Word;
-use shelf::{Reading, Row};
+use shelf::{Reading, Row, seek_rows};
 
 impl FactoryShelf {
     // The shelf of the programme. Its rows are all filled, and make up a whole sheet under the plan whose widths are all 4.
@@ -30,6 +30,6 @@ impl Reading for FactoryShelf {
     }
 
     fn seek(&self, label: Word) -> Result<usize, usize> {
-        self.rows.binary_search_by_key(&label, |row| row.label)
+        seek_rows(self.rows, label)
     }
 }

@@ -8,6 +8,7 @@ use crate::fault::ShelfFault;
 use crate::keeping::Keeping;
 use crate::reading::{MOST_ROWS, Reading};
 use crate::row::{Row, State};
+use crate::slice::seek_rows;
 use label::Word;
 
 impl<'a> OrderedTable<'a> {
@@ -44,7 +45,7 @@ impl<'a> Reading for OrderedTable<'a> {
     }
 
     fn seek(&self, label: Word) -> Result<usize, usize> {
-        self.rows().binary_search_by_key(&label, |row| row.label)
+        seek_rows(self.rows(), label)
     }
 }
 

@@ -4,19 +4,19 @@ use Rattle.shelf.specs.Rows.{most_rows, rank_of}
 use Rattle.chain.specs.Links.{link_of}
 use Rattle.chain.specs.Chains.{ComesBehind, chain_rows}
 use Rattle.chain.proofs.Walks.{length_walked}
-use Rattle.chain.proofs.Hooks.{Hooked, first_hooked, behind_hooked, behind_inside, hooked_rows, hooked_inside, hooked_rising}
+use Rattle.chain.proofs.Hooks.{Hooked, first_hooked, behind_hooked, comes_inside, hooked_rows, hooked_inside, hooked_rising}
 use Rattle.chain.proofs.chain.Chain.hook.Goals as goal
 use Rattle.chain.proofs.chain.Chain.hook.Goals.{in-None, in-Some}
 
 pub offset_bounds-links-slot : goal.offset_bounds-links-slot
 offset_bounds-links-slot c =
-    let inside = behind_inside c.args.self.now c.args.row c.args.before c.in-Some.slot c.in-Some.is c.requires.behind in
+    let inside = comes_inside c.args.self.now c.args.row c.args.before c.in-Some.slot c.in-Some.is c.requires.behind in
     let few = c.args.self.now.few in
     search rules
 
 pub bounds-links-slot : goal.bounds-links-slot
 bounds-links-slot c =
-    let inside = behind_inside c.args.self.now c.args.row c.args.before c.in-Some.slot c.in-Some.is c.requires.behind in
+    let inside = comes_inside c.args.self.now c.args.row c.args.before c.in-Some.slot c.in-Some.is c.requires.behind in
     omega (arith, inside, c.args.self.now.fits)
 
 -- whatever the row is hooked behind, the links are as many as before and chained with it

@@ -1,13 +1,13 @@
 use Rattle.std.proofs.Common.{rules, length, drop, ◌-◌, ap, arith, length-drop}
 use Rattle.std.proofs.lemmas.List.{take_all}
 use Rattle.kushrebat.specs.Lines.{space}
-use Rattle.kushrebat.proofs.Cuts.{Run, no_word, a_word}
+use Rattle.kushrebat.proofs.Cuts.{Run, only_spaces, a_word}
 use Rattle.kushrebat.proofs.script.line.WordsIterator.next.Goals as goal
 
 pub returns-in_err-spaces-clause-steps : goal.returns-in_err-spaces-clause-steps
 returns-in_err-spaces-clause-steps c =
     let run : Run space c.args.self.now.rest.now (length c.args.self.now.rest.now) = search rules in
-    let none = no_word _ _ run (search rules) in
+    let none = only_spaces _ _ run (search rules) in
     search (rules, none)
 
 pub returns-clause-steps : goal.returns-clause-steps
