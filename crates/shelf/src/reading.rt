@@ -29,7 +29,7 @@ pub trait Reading {
         ensures { Sought (rows self.now) label result }
     {
         // Kept: for shelves without a slice of their rows; the library searches slices alone, and one made first would ask for every row, where halving asks for twelve at most.
-        // Compared by `==` and `<`: of what `cmp` answers a number is made before the branch, which makes a look half as long again.
+        // Kept: compared by `==` and `<`; of what `cmp` answers a number is made before the branch, which makes a look half as long again.
         let mut low = 0;
         let mut high = self.count();
         while low < high {
