@@ -65,3 +65,8 @@ Absent rs l = index_of rs l ≡ None
 abbrev pub Sought : List Row → (l : ℕ) → Result ℕ ℕ → Type 0
 Sought rs l (Ok i) = (index_of rs l ≡ Some i) × (i ≡ rank_of rs l)
 Sought rs l (Err i) = Absent rs l × (i ≡ rank_of rs l)
+
+-- what a search says of any rows, in whatever order: an index that it finds is that of a row with the label l, and the other lies within the list or at its end
+abbrev pub Met : List Row → (l : ℕ) → Result ℕ ℕ → Type 0
+Met rs l (Ok i) = (i < length rs) × (label_at rs i ≡ l)
+Met rs l (Err i) = i ≤ length rs
